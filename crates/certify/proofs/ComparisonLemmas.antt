@@ -1,5 +1,6 @@
 -- Which calls a verdict compares with.
-use Rattle.std.proofs.Common.{◌≡◌, ◌⊎◌, inl, inr, ℕ, zero, suc, ◌+◌, ◌-◌, ◌≤◌, ◌<◌, Bool, true, false, cond, ◌&&◌, ◌||◌, List, [], ◌∷◌, ◌++◌, length, drop, slice_get, nat_eq, nat_le, is_some, Option, Some, None, refl, sym, ap, subst, ◌∙◌, arith}
+use Rattle.std.proofs.Common.{◌≡◌, inl, inr, ℕ, zero, suc, ◌+◌, ◌-◌, ◌≤◌, ◌<◌, Bool, true, false, cond, ◌&&◌, ◌||◌, List, [], ◌∷◌, ◌++◌, length, drop, slice_get, nat_eq, nat_le, is_some, Option, Some, None, refl, sym, ap, subst, ◌∙◌, arith}
+use Rattle.std.proofs.lemmas.Bool.{and_parts, and_from, or_left, or_right, or_cases}
 use Rattle.std.specs.Prelude.{IsTrue}
 use Rattle.std.specs.List.{list_any}
 use Rattle.std.proofs.lemmas.Bool.Decides.{nat_tests}
@@ -16,26 +17,6 @@ has k xs = list_any (λ x. nat_eq x k) xs
 any-append : (p : ℕ → Bool) (xs ys : List ℕ) → list_any p (xs ++ ys) ≡ (list_any p xs || list_any p ys)
 any-append p [] ys = refl
 any-append p (x ∷ xs) ys = elim (p x) as (λ b. (b || list_any p (xs ++ ys)) ≡ ((b || list_any p xs) || list_any p ys)) [ true ↦ refl | false ↦ any-append p xs ys ]
-
-or_either : (a b : Bool) → (a || b) ≡ true → (a ≡ true) ⊎ (b ≡ true)
-or_either true b e = inl refl
-or_either false b e = inr e
-
-or_left : (a b : Bool) → a ≡ true → (a || b) ≡ true
-or_left true b e = refl
-or_left false b e = absurd cc
-
-or_right : (a b : Bool) → b ≡ true → (a || b) ≡ true
-or_right true b e = refl
-or_right false b e = e
-
-both : (a b : Bool) → (a && b) ≡ true → (a ≡ true) × (b ≡ true)
-both true b e = (refl, e)
-both false b e = absurd cc
-
-and_both : (a b : Bool) → a ≡ true → b ≡ true → (a && b) ≡ true
-and_both true b e f = f
-and_both false b e f = absurd cc
 
 some_is : {X : Type 0} (x y : X) → just x ≡ just y → x ≡ y
 some_is x y e = cc
@@ -55,7 +36,7 @@ here looks n c = cond (is_commit c.verdict && shares_bit looks c.writes) (n ∷ 
 
 here_is : (looks : List Look) (n k : ℕ) (c : CertifiedItem) → has k (here looks n c) ≡ true → (n ≡ k) × ((is_commit c.verdict && shares_bit looks c.writes) ≡ true)
 here_is looks n k c e = elim (is_commit c.verdict && shares_bit looks c.writes) as (λ b. has k (cond b (n ∷ []) []) ≡ true → (n ≡ k) × (b ≡ true)) [
-  | true ↦ λ h. ((elim (or_either (nat_eq n k) false h) [ inl t ↦ grind (arith, nat_tests) | inr f ↦ absurd cc ]), refl)
+  | true ↦ λ h. ((elim (or_cases (nat_eq n k) false h) [ inl t ↦ grind (arith, nat_tests) | inr f ↦ absurd cc ]), refl)
   | false ↦ λ h. absurd cc
 ] e
 
@@ -63,7 +44,7 @@ here_is looks n k c e = elim (is_commit c.verdict && shares_bit looks c.writes) 
 none_below : (looks : List Look) (n k : ℕ) (cs : List CertifiedItem) → k < n → has k (comparisons_from looks n cs) ≡ true → ⊥
 unfolding comparisons_from
 none_below looks n k [] lt e = cc
-none_below looks n k (c ∷ cs) lt e = elim (or_either (has k (here looks n c)) _ (sym (any-append (λ x. nat_eq x k) (here looks n c) (cond (conflicts looks c) [] (comparisons_from looks (n + 1) cs))) ∙ e)) [
+none_below looks n k (c ∷ cs) lt e = elim (or_cases (has k (here looks n c)) _ (sym (any-append (λ x. nat_eq x k) (here looks n c) (cond (conflicts looks c) [] (comparisons_from looks (n + 1) cs))) ∙ e)) [
   | inl h ↦ let same = (here_is looks n k c h).0 in omega arith
   | inr h ↦ elim (conflicts looks c) as (λ b. has k (cond b [] (comparisons_from looks (n + 1) cs)) ≡ true → ⊥) [
     | true ↦ λ f. cc
@@ -79,16 +60,16 @@ before looks c cs i t h (suc j) d lt e = h j d (omega arith) e
 from_means : (looks : List Look) (n i : ℕ) (cs : List CertifiedItem) → has (n + i) (comparisons_from looks n cs) ≡ true → ComparedAt looks cs i
 unfolding comparisons_from
 from_means looks n i [] e = absurd cc
-from_means looks n zero (c ∷ cs) e = elim (or_either (has (n + 0) (here looks n c)) _ (sym (any-append (λ x. nat_eq x (n + 0)) (here looks n c) (cond (conflicts looks c) [] (comparisons_from looks (n + 1) cs))) ∙ e)) [
+from_means looks n zero (c ∷ cs) e = elim (or_cases (has (n + 0) (here looks n c)) _ (sym (any-append (λ x. nat_eq x (n + 0)) (here looks n c) (cond (conflicts looks c) [] (comparisons_from looks (n + 1) cs))) ∙ e)) [
   | inl h ↦
-      let two = both (is_commit c.verdict) (shares_bit looks c.writes) (here_is looks n (n + 0) c h).1 in
+      let two = and_parts (is_commit c.verdict) (shares_bit looks c.writes) (here_is looks n (n + 0) c h).1 in
       record { c = c; stands = refl; committed = two.0; shares = two.1; first = λ j d lt. absurd (omega arith) }
   | inr h ↦ absurd (elim (conflicts looks c) as (λ b. has (n + 0) (cond b [] (comparisons_from looks (n + 1) cs)) ≡ true → ⊥) [
     | true ↦ λ f. cc
     | false ↦ λ f. none_below looks (n + 1) (n + 0) cs (omega arith) f
   ] h)
 ]
-from_means looks n (suc i) (c ∷ cs) e = elim (or_either (has (n + suc i) (here looks n c)) _ (sym (any-append (λ x. nat_eq x (n + suc i)) (here looks n c) (cond (conflicts looks c) [] (comparisons_from looks (n + 1) cs))) ∙ e)) [
+from_means looks n (suc i) (c ∷ cs) e = elim (or_cases (has (n + suc i) (here looks n c)) _ (sym (any-append (λ x. nat_eq x (n + suc i)) (here looks n c) (cond (conflicts looks c) [] (comparisons_from looks (n + 1) cs))) ∙ e)) [
   | inl h ↦ absurd (let same = (here_is looks n (n + suc i) c h).0 in omega arith)
   | inr h ↦ elim (conflicts looks c) as (λ b. conflicts looks c ≡ b → has (n + suc i) (cond b [] (comparisons_from looks (n + 1) cs)) ≡ true → ComparedAt looks (c ∷ cs) (suc i)) [
     | true ↦ λ t f. absurd cc
@@ -108,7 +89,7 @@ means_from looks n i [] at = absurd (let e = at.stands in cc)
 means_from looks n zero (c ∷ cs) at =
     let same = some_is c at.c at.stands in
     let test : (is_commit c.verdict && shares_bit looks c.writes) ≡ true =
-    subst (λ (x : CertifiedItem). (is_commit x.verdict && shares_bit looks x.writes) ≡ true) (sym same) (and_both (is_commit at.c.verdict) (shares_bit looks at.c.writes) at.committed at.shares) in
+    subst (λ (x : CertifiedItem). (is_commit x.verdict && shares_bit looks x.writes) ≡ true) (sym same) (and_from (is_commit at.c.verdict) (shares_bit looks at.c.writes) at.committed at.shares) in
     let none : n + 0 ≡ n = omega arith in
     any-append (λ x. nat_eq x (n + 0)) (here looks n c) (cond (conflicts looks c) [] (comparisons_from looks (n + 1) cs))
     ∙ or_left (has (n + 0) (here looks n c)) _ (ap (λ b. has (n + 0) (cond b (n ∷ []) [])) test ∙ ap (λ k. has k (n ∷ [])) none ∙ is_has n)

@@ -1,5 +1,6 @@
 -- A search among what is kept gives the verdict on the calls for which it is kept.
 use Rattle.std.proofs.Common.{◌≡◌, ◌↔◌, ◌⊎◌, inl, inr, ℕ, zero, suc, ◌+◌, ◌-◌, ◌≤◌, ◌<◌, Bool, true, false, cond, ◌&&◌, ◌||◌, List, [], ◌∷◌, ◌++◌, length, drop, slice_get, nat_eq, nat_le, IsTrue, refl, sym, ap, subst, ◌∙◌, arith}
+use Rattle.std.proofs.lemmas.Bool.{and_parts, and_from}
 use Rattle.std.specs.Prelude.{Option, Some, None, is_some}
 use Rattle.std.specs.List.{list_any}
 use Rattle.std.specs.FinMap.{keys}
@@ -29,10 +30,6 @@ Answer meets shares looks before (c ∷ later) = (meets before ≡ meets_call lo
 abbrev pub result_of : List Look → ℕ → List CertifiedItem → SearchResult
 result_of looks before later = record { compared = length (comparisons_from looks (before + 1) later); conflict = first_position (conflicts looks) (before + 1) later }
 
-and_both : (a b : Bool) → a ≡ true → b ≡ true → (a && b) ≡ true
-and_both true b e f = f
-and_both false b e f = absurd cc
-
 no_first : (a b : Bool) → a ≡ false → (a && b) ≡ false
 no_first true b e = absurd cc
 no_first false b e = refl
@@ -40,10 +37,6 @@ no_first false b e = refl
 no_second : (a b : Bool) → b ≡ false → (a && b) ≡ false
 no_second true b e = e
 no_second false b e = refl
-
-both : (a b : Bool) → (a && b) ≡ true → (a ≡ true) × (b ≡ true)
-both true b e = (refl, e)
-both false b e = absurd cc
 
 -- the first call: it isn't compared with, it conflicts, or it is only compared with
 here_passed : (looks : List Look) (before : ℕ) (c : CertifiedItem) (later : List CertifiedItem) → meets_call looks c ≡ false → conflicts looks c ≡ false → result_of looks before (c ∷ later) ≡ result_of looks (before + 1) later
@@ -82,7 +75,7 @@ search_gives meets shares looks bits (c ∷ later) before h =
       | true ↦ λ m. elim (shares_key looks c.writes) as (λ b. shares_key looks c.writes ≡ b → search meets shares before (suc (length later)) ≡ result_of looks before (c ∷ later)) [
         | true ↦ λ s.
             found meets shares before (length later) (h.0 ∙ m) (h.1 ∙ s)
-            ∙ sym (here_found looks before c later m (and_both (is_commit c.verdict) (shares_key looks c.writes) (both (is_commit c.verdict) (shares_bit looks c.writes) m).0 s))
+            ∙ sym (here_found looks before c later m (and_from (is_commit c.verdict) (shares_key looks c.writes) (and_parts (is_commit c.verdict) (shares_bit looks c.writes) m).0 s))
         | false ↦ λ s.
             compared meets shares before (length later) (h.0 ∙ m) (h.1 ∙ s)
             ∙ ap (with_compared 1) rest
@@ -92,8 +85,8 @@ search_gives meets shares looks bits (c ∷ later) before h =
           let apart : conflicts looks c ≡ false =
           elim (conflicts looks c) as (λ b. conflicts looks c ≡ b → b ≡ false) [
             | true ↦ λ x.
-                let p = both (is_commit c.verdict) (shares_key looks c.writes) x in
-                let bad : false ≡ true = sym m ∙ and_both (is_commit c.verdict) (shares_bit looks c.writes) p.0 (bits c p.1) in
+                let p = and_parts (is_commit c.verdict) (shares_key looks c.writes) x in
+                let bad : false ≡ true = sym m ∙ and_from (is_commit c.verdict) (shares_bit looks c.writes) p.0 (bits c p.1) in
                 cc
             | false ↦ λ x. refl
           ] refl in
@@ -123,13 +116,13 @@ kept_meets : (ring : Ring) (looks : List Look) (before : ℕ) (c : CertifiedItem
     → IsTrue (meets_call looks c) ↔ Meets ring looks before
 kept_meets ring looks before c few shared kept = (
   λ m.
-      let p = both (is_commit c.verdict) (shares_bit looks c.writes) m in
+      let p = and_parts (is_commit c.verdict) (shares_bit looks c.writes) m in
       let x = (shared c.writes).0 p.1 in
       let lt = few_set few (keys c.writes) x.0 x.2 in
-      (x.0, lt, kept.signature x.0 lt ∙ and_both (is_commit c.verdict) (writes_set_bit c.writes x.0) p.0 x.2, x.1),
+      (x.0, lt, kept.signature x.0 lt ∙ and_from (is_commit c.verdict) (writes_set_bit c.writes x.0) p.0 x.2, x.1),
   λ x.
-      let p = both (is_commit c.verdict) (writes_set_bit c.writes x.0) (sym (kept.signature x.0 x.1) ∙ x.2) in
-      and_both (is_commit c.verdict) (shares_bit looks c.writes) p.0 ((shared c.writes).1 (x.0, x.3, p.1)),
+      let p = and_parts (is_commit c.verdict) (writes_set_bit c.writes x.0) (sym (kept.signature x.0 x.1) ∙ x.2) in
+      and_from (is_commit c.verdict) (shares_bit looks c.writes) p.0 ((shared c.writes).1 (x.0, x.3, p.1)),
 )
 
 abbrev meets_some : List Look → Option CertifiedItem → Bool

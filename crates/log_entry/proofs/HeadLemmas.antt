@@ -1,5 +1,6 @@
 -- The fields of entries' bytes.
 use Rattle.std.proofs.Common.{◌≡◌, ℕ, ◌+◌, ◌<◌, ◌≤◌, ◌^◌, ◌%◌, ◌==◌, nat_le, nat_eq, Bool, true, false, not, ◌&&◌, ◌||◌, if◌then◌else◌, List, [], ◌∷◌, ◌++◌, length, take, drop, Option, Some, None, refl, sym, ◌∙◌, ap, arith}
+use Rattle.std.proofs.lemmas.Bool.{and_from}
 use Rattle.std.proofs.lemmas.Bool.Decides.{nat_tests}
 use Rattle.std.proofs.lemmas.List.{append_assoc, append-nil, length-append}
 use Rattle.std.proofs.Math.Seq.{drop-append-add, take-append_seam}
@@ -39,10 +40,6 @@ of_number count k ys = omega (arith, length-append (little_bytes count k) ys, le
 chosen : {A : Type 0} (b : Bool) (x y : A) → b ≡ true → (if b then x else y) ≡ x
 chosen true x y e = refl
 chosen false x y e = absurd cc
-
-both : (a b : Bool) → a ≡ true → b ≡ true → (a && b) ≡ true
-both true b e f = f
-both false b e f = e
 
 at_most : (m n : ℕ) → m ≤ n → nat_le m n ≡ true
 at_most m n le = grind (arith, nat_tests)
@@ -87,7 +84,7 @@ unfolding head_of
 call_is_named e fits =
     ap head_of (entry_fields e) ∙ ap (λ n. call_head n fields) args_len
     ∙ chosen (nat_le (28 + n) (length fields) && not (has_zero (request_of fields))) (Some (CallHead (call_of n fields) (field (20 + n) 8 fields))) None
-    (both _ _ (at_most (28 + n) (length fields) (omega (arith, long))) (ap (λ (r : Option RequestId). not (has_zero r)) request ∙ ap not fits.whole))
+    (and_from _ _ (at_most (28 + n) (length fields) (omega (arith, long))) (ap (λ (r : Option RequestId). not (has_zero r)) request ∙ ap not fits.whole))
     ∙ (λ i. Some (CallHead (call i) (reply i)))
   where
     n : ℕ

@@ -1,5 +1,6 @@
 -- What a verdict means.
 use Rattle.std.proofs.Common.{◌≡◌, ◌⊎◌, inl, inr, ℕ, zero, suc, ◌+◌, ◌-◌, ◌≤◌, ◌<◌, Bool, true, false, cond, ◌&&◌, is_some, List, [], ◌∷◌, length, take, drop, slice_get, IsSome, nat_le, Option, Some, None, option_map, refl, sym, ap, subst, ◌∙◌, arith}
+use Rattle.std.proofs.lemmas.Bool.{and_parts}
 use Rattle.std.specs.Prelude.{◌↔◌}
 use Rattle.std.specs.FinMap.{get, empty, get-empty}
 use Rattle.std.proofs.lemmas.Bool.Decides.{nat_tests}
@@ -110,10 +111,6 @@ committed Stale e = absurd cc
 committed (Repeated n) e = absurd cc
 committed (Taken n) e = absurd cc
 
-both : (a b : Bool) → (a && b) ≡ true → (a ≡ true) × (b ≡ true)
-both true b e = (refl, e)
-both false b e = absurd cc
-
 -- what stands at a position of what the log came to, by the item there
 data StandsThere (w : Setting) (log : Log) (k : ℕ) (c : CertifiedItem) : Type 0 where
   ByCall : (call : Call) → slice_get log k ≡ just (CallItem call) → (run_in w log call).writes ≡ c.writes → call.request ≡ c.request → StandsThere w log k c
@@ -143,7 +140,7 @@ nothing_written key h = let bad : false ≡ true = ap is_some (sym (get-empty ke
 
 wrote : (w : Setting) (log : Log) (looks : List Look) (k : ℕ) (c : CertifiedItem) → slice_get (history w log).certified k ≡ just c → (is_commit c.verdict && shares_key looks c.writes) ≡ true → StandsThere w log k c → WroteWhatWasRead w log looks (suc k)
 wrote w log looks k c here test (ByCall call at writes request) =
-    let parts = both (is_commit c.verdict) (shares_key looks c.writes) test in
+    let parts = and_parts (is_commit c.verdict) (shares_key looks c.writes) test in
     let s = shared looks c.writes parts.1 in
     record {
       before = k;
@@ -156,7 +153,7 @@ wrote w log looks k c here test (ByCall call at writes request) =
       written = subst (λ (x : Writes). IsSome (get x s.key)) (sym writes) s.written;
     }
 wrote w log looks k c here test (ByAddition writes request) =
-    let parts = both (is_commit c.verdict) (shares_key looks c.writes) test in
+    let parts = and_parts (is_commit c.verdict) (shares_key looks c.writes) test in
     let s = shared looks c.writes parts.1 in
     absurd (nothing_written s.key (subst (λ (x : Writes). IsSome (get x s.key)) (sym writes) s.written))
 
@@ -216,7 +213,7 @@ not_none (Some r) e = cc
 
 repetition_by : (w : Setting) (log : Log) (call : Call) (d k : ℕ) (c : CertifiedItem) → k < d → slice_get (history w log).certified k ≡ just c → repeats call.request c ≡ true → StandsThere w log k c → IsRepetition w log call (suc k) (suc d)
 repetition_by w log call d k c lt here test (ByCall first at writes request) =
-    let parts = both (is_commit c.verdict) (same_request call.request c.request) test in
+    let parts = and_parts (is_commit c.verdict) (same_request call.request c.request) test in
     record {
       earlier = omega arith;
       before = k;
@@ -227,7 +224,7 @@ repetition_by w log call d k c lt here test (ByCall first at writes request) =
       same = ap (same_request call.request) request ∙ parts.1;
     }
 repetition_by w log call d k c lt here test (ByAddition writes request) =
-    let parts = both (is_commit c.verdict) (same_request call.request c.request) test in
+    let parts = and_parts (is_commit c.verdict) (same_request call.request c.request) test in
     absurd (not_none call.request (ap (same_request call.request) request ∙ parts.1))
 
 -- what repeats is a repetition

@@ -1,5 +1,6 @@
 -- No two committed calls carry one request.
-use Rattle.std.proofs.Common.{◌≡◌, ◌⊎◌, inl, inr, ◌↔◌, ℕ, suc, ◌-◌, ◌<◌, cond, Bool, true, false, ◌&&◌, nat_eq, nat_le, IsTrue, IsSome, Option, Some, None, slice_get, refl, sym, ap, subst, ◌∙◌, arith}
+use Rattle.std.proofs.Common.{◌≡◌, ◌⊎◌, inl, inr, ◌↔◌, ℕ, suc, ◌-◌, ◌<◌, cond, true, false, nat_eq, nat_le, IsTrue, IsSome, Option, Some, None, slice_get, refl, sym, ap, subst, ◌∙◌, arith}
+use Rattle.std.proofs.lemmas.Bool.{and_parts, and_from}
 use Rattle.std.proofs.lemmas.Bool.Decides.{nat_tests}
 use Rattle.log_model.specs.declared.request.RequestId.{RequestId}
 use Rattle.log_model.specs.declared.verdict.Verdict.TheVariants.{Commit, Stale, Repeated}
@@ -7,14 +8,6 @@ use Rattle.log_model.specs.Log.{Setting, Call, CallItem, Log, IsLog, same_reques
 use Rattle.log_model.specs.Verdicts.{IsRepetition}
 use Rattle.log_model.proofs.RunLemmas.{just}
 use Rattle.log_model.proofs.MeaningLemmas.{first_of_log, verdict_known, repeated_in, first_is_repeated, none_is_new, repeated_of, commit_is}
-
-both : (a b : Bool) → (a && b) ≡ true → (a ≡ true) × (b ≡ true)
-both true b e = (refl, e)
-both false b e = absurd cc
-
-and_both : (a b : Bool) → a ≡ true → b ≡ true → (a && b) ≡ true
-and_both true b e f = f
-and_both false b e f = absurd cc
 
 is_eq : (m n : ℕ) → nat_eq m n ≡ true → m ≡ n
 is_eq m n e = grind (arith, nat_tests)
@@ -30,11 +23,11 @@ equal a b e f = ap (λ (n : ℕ). with_numbers n a.sequence) e ∙ ap (λ (n : �
 
 same_is : (a b : RequestId) → same_request (Some a) (Some b) ≡ true → a ≡ b
 same_is a b e =
-    let parts = both (nat_eq a.session b.session) (nat_eq a.sequence b.sequence) e in
+    let parts = and_parts (nat_eq a.session b.session) (nat_eq a.sequence b.sequence) e in
     equal a b (is_eq a.session b.session parts.0) (is_eq a.sequence b.sequence parts.1)
 
 same_self : (a : RequestId) → same_request (Some a) (Some a) ≡ true
-same_self a = and_both (nat_eq a.session a.session) (nat_eq a.sequence a.sequence) (eq_is a.session a.session refl) (eq_is a.sequence a.sequence refl)
+same_self a = and_from (nat_eq a.session a.session) (nat_eq a.sequence a.sequence) (eq_is a.session a.session refl) (eq_is a.sequence a.sequence refl)
 
 same_given : (a b : Option RequestId) → same_request a b ≡ true → (a ≡ b) × IsSome a
 same_given None b e = absurd cc

@@ -1,32 +1,20 @@
 -- The list of a map's rows, put one after another, is the map.
-use Rattle.std.proofs.Common.{◌≡◌, List, [], ◌∷◌, length, fold, refl, sym, ap, subst, ◌∙◌, cond, Bool, true, false, arith}
-use Rattle.std.specs.Prelude.{Option, Some, None, T, ◌&&◌}
+use Rattle.std.proofs.Common.{◌≡◌, List, [], ◌∷◌, length, fold, refl, sym, ap, subst, ◌∙◌, cond, true, false, arith}
+use Rattle.std.specs.Prelude.{Option, Some, None, T}
 use Rattle.std.specs.declared.cmp.Ordering.{Ordering}
 use Rattle.std.specs.declared.cmp.Ordering.TheVariants.{Less, Equal, Greater}
-use Rattle.std.specs.Ordering.{is_lt, is_eq, eq_by_cmp}
+use Rattle.std.specs.Ordering.{is_eq, eq_by_cmp}
 use Rattle.std.specs.Cmp.{IsTotalOrder}
 use Rattle.std.specs.FinMap.{FinMap, IsAntisymmetric, empty, get, insert, entries, find, entries_sorted, is_sorted, get-empty, get-insert, get-entries, len-empty, len-entries, same_map}
 use Rattle.std.specs.FinMap.Entries.{below_all}
 use Rattle.schema.specs.Rows.{Rows, key_cmp, key_cmp_total, key_cmp-IsAntisymmetric}
+use Rattle.schema.proofs.SortedLemmas.{first, second, not_found}
 use Rattle.plain_runner.specs.Listed.{rows_of}
-
-first : (a b : Bool) → T (a && b) → T a
-first true b h = tt
-first false b h = h
-
-second : (a b : Bool) → T (a && b) → T b
-second true b h = h
-second false b h = absurd h
 
 equal : (o : Ordering) → is_eq o ≡ true → o ≡ Equal
 equal Less e = absurd cc
 equal Equal e = refl
 equal Greater e = absurd cc
-
-not_equal : (o : Ordering) → T (is_lt o) → is_eq o ≡ false
-not_equal Less h = refl
-not_equal Equal h = absurd h
-not_equal Greater h = absurd h
 
 abbrev or_else : {X : Type 0} → Option X → Option X → Option X
 or_else None y = y
@@ -37,16 +25,12 @@ or_none None = refl
 or_none (Some x) = refl
 
 module _ {K X : Type 0} {R : K → K → Ordering} (total : IsTotalOrder R) (exact : IsAntisymmetric R) where
-  not_found : (q : K) (es : List (K × X)) → T (below_all R q es) → find R q es ≡ None
-  not_found q [] h = refl
-  not_found q (e ∷ es) h = ap (λ b. cond b (Some e.1) (find R q es)) (not_equal (R q e.0) (first _ _ h)) ∙ not_found q es (second _ _ h)
-
   one_put : (q : K) (e : K × X) (es : List (K × X)) (before : Option X) → T (below_all R e.0 es) → or_else (find R q es) (cond (eq_by_cmp R q e.0) (Some e.1) before) ≡ or_else (cond (eq_by_cmp R q e.0) (Some e.1) (find R q es)) before
   one_put q e es before h =
       elim (eq_by_cmp R q e.0) as (λ b. eq_by_cmp R q e.0 ≡ b → or_else (find R q es) (cond b (Some e.1) before) ≡ or_else (cond b (Some e.1) (find R q es)) before) [
         | true ↦ λ same.
             let key : q ≡ e.0 = exact q e.0 (equal (R q e.0) same) in
-            ap (λ x. or_else x (Some e.1)) (not_found q es (subst (λ (k : K). T (below_all R k es)) (sym key) h))
+            ap (λ x. or_else x (Some e.1)) (not_found R q es (subst (λ (k : K). T (below_all R k es)) (sym key) h))
         | false ↦ λ other. refl
       ] refl
 

@@ -1,6 +1,6 @@
 -- What `parse` reads of a word is its number.
-use Rattle.std.proofs.Common.{◌≡◌, ◌∙◌, ◌<◌, ◌^◌, ◌&&◌, ◌==◌, ℕ, Bool, true, false, refl, sym, ap, subst, arith, List, [], ◌∷◌, length, Some, None, true≢false, nat_lt, lt-ltb, ltb-true}
-use Rattle.std.proofs.lemmas.Bool.{lt-leb, ltb-false}
+use Rattle.std.proofs.Common.{◌≡◌, ◌∙◌, ◌<◌, ◌^◌, ◌&&◌, ◌==◌, ℕ, Bool, true, false, refl, sym, ap, subst, arith, List, [], ◌∷◌, length, Some, None, nat_lt, lt-ltb, ltb-true}
+use Rattle.std.proofs.lemmas.Bool.{lt-leb, ltb-false, and_parts}
 use Rattle.std.specs.Prelude.{nat_le, slice_index}
 use Rattle.std.specs.List.{list_all}
 use Rattle.std.specs.Char.{digit_value}
@@ -11,14 +11,10 @@ digits_pass : (ds : List ℕ) → AllDigits 10 ds → list_all (λ d. nat_lt (di
 digits_pass [] h = refl
 digits_pass (d ∷ ds) h = rw (lt-ltb (digit_value d) 10 h.0) (digits_pass ds h.1)
 
-both : (a b : Bool) → (a && b) ≡ true → (a ≡ true) × (b ≡ true)
-both true b e = (refl, e)
-both false b e = absurd (true≢false (sym e))
-
 digits_from : (ds : List ℕ) → list_all (λ d. nat_lt (digit_value d) 10) ds ≡ true → AllDigits 10 ds
 digits_from [] e = tt
 digits_from (d ∷ ds) e =
-    let parts = both _ _ e in
+    let parts = and_parts _ _ e in
     (ltb-true _ _ parts.0, digits_from ds parts.1)
 
 and_false : (b : Bool) → (b && false) ≡ false
@@ -46,7 +42,7 @@ unread_is_none lo hi text small plus zero h = go (is_numeral text) refl
   where
     large : (b : Bool) → is_numeral text ≡ true → nat_lt (digits_value 10 text) 4294967296 ≡ b → None ≡ number_in lo hi text
     large true t u =
-        let parts = both _ _ t in
+        let parts = and_parts _ _ t in
         absurd (h (subst IsRead (sym (whole text plus)) ((ltb-true _ _ parts.0, digits_from text parts.1), ltb-true _ _ u)))
     large false t u =
         let big = ltb-false (digits_value 10 text) 4294967296 u in

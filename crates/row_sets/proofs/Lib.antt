@@ -1,2 +1,3 @@
 pub mod WriteLemmas
 pub mod OrderLemmas
+pub mod LeftLemmas

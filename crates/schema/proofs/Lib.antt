@@ -7,3 +7,4 @@ pub mod CountLemmas
 pub mod ShareLemmas
 pub mod SplitLemmas
 pub mod OverlayLemmas
+pub mod SortedLemmas

@@ -1,6 +1,6 @@
 -- How a map of std, as its entries, is a finite map.
-use Rattle.std.proofs.Common.{◌≡◌, ◌+◌, List, [], ◌∷◌, length, refl, sym, ap, subst, ◌∙◌, cond, Bool, true, false}
-use Rattle.std.specs.Prelude.{Option, Some, None, T, ◌&&◌, not, filter}
+use Rattle.std.proofs.Common.{◌≡◌, ◌+◌, List, [], ◌∷◌, length, refl, sym, ap, subst, ◌∙◌, cond, Bool}
+use Rattle.std.specs.Prelude.{Option, Some, None, T, not, filter}
 use Rattle.std.specs.declared.cmp.Ordering.{Ordering}
 use Rattle.std.specs.declared.cmp.Ordering.TheVariants.{Less, Equal}
 use Rattle.std.specs.Ordering.{is_lt}
@@ -12,6 +12,7 @@ use Rattle.std.specs.BTreeMap.{is_at}
 use Rattle.std.specs.FinMap.{FinMap, IsAntisymmetric, get, insert, remove, entries, from_entries, from_sorted, retain_keys, len, len-entries, entries_sorted, get-entries, find, is_sorted, get-from_entries, get-insert, get-remove, get-from_sorted, get-retain_keys, entries-from_sorted, same_map}
 use Rattle.std.proofs.lemmas.List.Filters.{length-filter_both}
 use Rattle.std.specs.FinMap.Entries.{below_all, where_key, is_sorted-where_key, find-where_key}
+use Rattle.schema.proofs.SortedLemmas.{both}
 
 -- what std's map finds at a key
 abbrev pub found_at : {K X : Type 0} → (K → K → Ordering) → List (K × X) → K → Option X
@@ -37,10 +38,6 @@ one_removed {R = R} o exact es fs k h = same_map o exact _ _ (λ q.
     ∙ sym (get-remove o (from_entries es) k q ∙ ap (cond (is_at (R q) k) None) (get_at o es q)))
 
 -- ---- entries in order are those of the map that they make
-
-both : (a b : Bool) → T a → T b → T (a && b)
-both true b p q = q
-both false b p q = p
 
 below_from : {K X : Type 0} (R : K → K → Ordering) (x : K) (es : List (K × X)) → AllByRecursion (λ y. R x y ≡ Less) (keys_of es) → T (below_all R x es)
 below_from R x [] h = tt

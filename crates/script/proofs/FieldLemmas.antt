@@ -9,10 +9,10 @@ use Rattle.std.proofs.lemmas.List.Sums.{AllPass-from_list_all}
 use Rattle.std.proofs.lemmas.Str.{IsUtf8-from_ascii}
 use Rattle.std.proofs.lemmas.Str.Ascii.{IsAscii-from_all}
 use Rattle.script.specs.Text.{is_printable}
-use Rattle.script.proofs.NumberLemmas.{second}
+use Rattle.std.proofs.lemmas.Bool.{and_parts}
 
 below : (b : ℕ) → is_printable b ≡ true → b < 128
-below b e = omega (arith, leb-true b 0x7e (second (nat_le 0x20 b) (nat_le b 0x7e) e))
+below b e = omega (arith, leb-true b 0x7e (and_parts (nat_le 0x20 b) (nat_le b 0x7e) e).1)
 
 pub IsUtf8-printable : (line : List ℕ) → list_all is_printable line ≡ true → IsUtf8 line
 IsUtf8-printable line all =

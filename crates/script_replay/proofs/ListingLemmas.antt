@@ -1,5 +1,5 @@
 -- Rows that are listed one after another, as looks find them.
-use Rattle.std.proofs.Common.{◌≡◌, ◌≢◌, ℕ, ◌+◌, ◌<◌, ◌≤◌, inl, inr, eqb, Bool, true, false, cond, ◌&&◌, List, [], ◌∷◌, ◌++◌, refl, sym, ap, subst, ◌∙◌, arith}
+use Rattle.std.proofs.Common.{◌≡◌, ◌≢◌, ℕ, ◌+◌, ◌<◌, ◌≤◌, inl, inr, eqb, Bool, true, false, cond, List, [], ◌∷◌, ◌++◌, refl, sym, ap, subst, ◌∙◌, arith}
 use Rattle.std.proofs.lemmas.List.{append_assoc, append-nil}
 use Rattle.std.proofs.lemmas.Bool.{eqb-true, eqb-false}
 use Rattle.std.proofs.lemmas.Map.Views.{tells_apart}
@@ -13,20 +13,13 @@ use Rattle.std.specs.FinMap.Entries.{below_all}
 use Rattle.schema.specs.declared.look.Look.{Look}
 use Rattle.schema.specs.declared.limits.TheConstants.{MAX_TABLE}
 use Rattle.schema.specs.Rows.{Key, key_cmp, key_cmp_total, key_cmp-IsAntisymmetric, Rows, covers, IsFirst, IsVacant}
+use Rattle.schema.proofs.SortedLemmas.{first, second}
 use Rattle.script_replay.specs.Listing.{IsBefore, IsBehind, IsRowKey, HasRowKeys, Each, AreBefore}
 
 abbrev pub Listed : Type 0
 Listed = List (Key × List ℕ)
 
 -- ---- keys
-
-first : (a b : Bool) → T (a && b) → T a
-first true b h = tt
-first false b h = absurd h
-
-second : (a b : Bool) → T (a && b) → T b
-second true b h = h
-second false b h = absurd h
 
 less_by : (a b : Key) (o r : Ordering) → MatchOrdering o (a.0 < b.0) (a.0 ≡ b.0) (b.0 < a.0) → MatchOrdering r (a.1 < b.1) (a.1 ≡ b.1) (b.1 < a.1)
     → T (is_lt (ordering_then o r)) → IsBefore a b

@@ -1,28 +1,13 @@
 -- Bits of keys, looks and writes.
-use Rattle.std.proofs.Common.{◌≡◌, ◌⊎◌, inl, inr, ℕ, zero, suc, ◌+◌, ◌-◌, ◌≤◌, ◌<◌, ◌^◌, ◌*◌, ◌/◌, ◌%◌, Bool, true, false, cond, ◌&&◌, ◌||◌, List, [], ◌∷◌, nat_eq, nat_lt, nat_le, refl, sym, ap, ◌∙◌, arith}
-use Rattle.std.specs.Prelude.{IsTrue, IsSome}
+use Rattle.std.proofs.Common.{◌≡◌, ◌⊎◌, inl, inr, ℕ, zero, suc, ◌+◌, ◌≤◌, ◌<◌, ◌^◌, ◌*◌, ◌/◌, ◌%◌, Bool, true, false, cond, ◌&&◌, List, [], ◌∷◌, nat_eq, nat_lt, nat_le, refl, ap, ◌∙◌, arith}
+use Rattle.std.proofs.lemmas.Bool.{and_parts, or_left, or_right, or_cases}
+use Rattle.std.specs.Prelude.{IsTrue}
 use Rattle.std.specs.List.{list_any, range_with_len}
 use Rattle.std.specs.FinMap.{keys}
 use Rattle.std.proofs.lemmas.Bool.Decides.{nat_tests}
 use Rattle.schema.specs.declared.look.Look.{Look}
 use Rattle.schema.specs.Rows.{Key, Writes, covers, any_covers, shares_key}
 use Rattle.sig_lanes.specs.Signature.{bit_of, key_count, look_sets_bit, looks_set_bit, writes_set_bit, shares_bit}
-
-or_left : (a b : Bool) → a ≡ true → (a || b) ≡ true
-or_left true b e = refl
-or_left false b e = absurd cc
-
-or_right : (a b : Bool) → b ≡ true → (a || b) ≡ true
-or_right true b e = refl
-or_right false b e = e
-
-or_either : (a b : Bool) → (a || b) ≡ true → (a ≡ true) ⊎ (b ≡ true)
-or_either true b e = inl refl
-or_either false b e = inr e
-
-both : (a b : Bool) → (a && b) ≡ true → (a ≡ true) × (b ≡ true)
-both true b e = (refl, e)
-both false b e = absurd cc
 
 same : (m n : ℕ) → nat_eq m n ≡ true → m ≡ n
 same m n e = grind (arith, nat_tests)
@@ -40,8 +25,8 @@ record Inside (look : Look) (k : Key) : Type 0 where
 
 inside : (look : Look) (k : Key) → covers look k ≡ true → Inside look k
 inside look k e =
-    let a = both (nat_eq look.table k.0 && nat_le look.lo k.1) (nat_le k.1 look.hi) e in
-    let b = both (nat_eq look.table k.0) (nat_le look.lo k.1) a.0 in
+    let a = and_parts (nat_eq look.table k.0 && nat_le look.lo k.1) (nat_le k.1 look.hi) e in
+    let b = and_parts (nat_eq look.table k.0) (nat_le look.lo k.1) a.0 in
     record { table = same look.table k.0 b.0; from = few look.lo k.1 b.1; to = few k.1 look.hi a.1 }
 
 -- a number of a range passes where it is tested
@@ -80,7 +65,7 @@ look_sets look k e =
 
 looks_set : (looks : List Look) (k : Key) → any_covers looks k ≡ true → looks_set_bit looks (bit_of k) ≡ true
 looks_set [] k e = absurd cc
-looks_set (look ∷ looks) k e = elim (or_either (covers look k) (any_covers looks k) e) [
+looks_set (look ∷ looks) k e = elim (or_cases (covers look k) (any_covers looks k) e) [
   | inl here ↦ or_left (look_sets_bit (bit_of k) look) _ (look_sets look k here)
   | inr later ↦ or_right (look_sets_bit (bit_of k) look) _ (looks_set looks k later)
 ]
@@ -88,7 +73,7 @@ looks_set (look ∷ looks) k e = elim (or_either (covers look k) (any_covers loo
 -- what passes one test passes a weaker one
 any_weaker : (p q : Key → Bool) (ks : List Key) → ((k : Key) → p k ≡ true → q k ≡ true) → list_any p ks ≡ true → list_any q ks ≡ true
 any_weaker p q [] h e = absurd cc
-any_weaker p q (k ∷ ks) h e = elim (or_either (p k) (list_any p ks) e) [
+any_weaker p q (k ∷ ks) h e = elim (or_cases (p k) (list_any p ks) e) [
   | inl here ↦ or_left (q k) _ (h k here)
   | inr later ↦ or_right (q k) _ (any_weaker p q ks h later)
 ]
@@ -101,7 +86,7 @@ key_shares_bit looks writes e = any_weaker (any_covers looks) (λ k. looks_set_b
 -- one that passes, with its bit
 of_one : (p : ℕ → Bool) (ks : List Key) → list_any (λ (k : Key). p (bit_of k)) ks ≡ true → (bit : ℕ) × (p bit ≡ true) × (list_any (λ (k : Key). nat_eq (bit_of k) bit) ks ≡ true)
 of_one p [] e = absurd cc
-of_one p (k ∷ ks) e = elim (or_either (p (bit_of k)) (list_any (λ (k : Key). p (bit_of k)) ks) e) [
+of_one p (k ∷ ks) e = elim (or_cases (p (bit_of k)) (list_any (λ (k : Key). p (bit_of k)) ks) e) [
   | inl here ↦ (bit_of k, here, or_left (nat_eq (bit_of k) (bit_of k)) _ (equal (bit_of k)))
   | inr later ↦ let (bit, passes, set) = of_one p ks later in (bit, passes, or_right (nat_eq (bit_of k) bit) _ set)
 ]
@@ -119,7 +104,7 @@ by_both looks writes (bit, read, written) =
 -- where a number of a range passes, there is one
 of_range : (p : ℕ → Bool) (lo n : ℕ) → list_any p (range_with_len lo n) ≡ true → (k : ℕ) × (lo ≤ k) × (k < lo + n) × (p k ≡ true)
 of_range p lo zero e = absurd cc
-of_range p lo (suc n) e = elim (or_either (p lo) (list_any p (range_with_len (lo + 1) n)) e) [
+of_range p lo (suc n) e = elim (or_cases (p lo) (list_any p (range_with_len (lo + 1) n)) e) [
   | inl here ↦ (lo, omega arith, omega arith, here)
   | inr later ↦ (
       let x = of_range p (lo + 1) n later in

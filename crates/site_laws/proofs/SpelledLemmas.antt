@@ -1,5 +1,6 @@
 -- Bytes that decode to a program are its spelling.
 use Rattle.std.proofs.Common.{◌≡◌, ℕ, ℤ, zero, suc, pos, ◌+◌, ◌*◌, ◌/◌, ◌%◌, ◌^◌, ◌==◌, ◌≤◌, ◌<◌, Bool, true, false, not, cond, ◌&&◌, ◌||◌, List, [], ◌∷◌, ◌++◌, length, take, drop, Option, Some, None, Ok, Err, All, refl, sym, ap, subst, ◌∙◌, arith, append_assoc}
+use Rattle.std.proofs.lemmas.Bool.{and_parts}
 use Rattle.std.specs.Prelude.{find, slice_index}
 use Rattle.std.specs.Int.{w32, cast_signed, cast_unsigned}
 use Rattle.std.specs.List.{AllByRecursion, flat_map}
@@ -57,10 +58,6 @@ found_is test (y ∷ xs) x e = elim (test y) as (λ b. test y ≡ b → cond b (
 
 int_is : (a b : ℤ) → int_eq a b ≡ true → a ≡ b
 int_is a b e = (Decides-int_eq a b).0 e
-
-pub both : (a b : Bool) → (a && b) ≡ true → (a ≡ true) × (b ≡ true)
-both true b e = (refl, e)
-both false b e = absurd cc
 
 module _ (o : Opcode) (P : Type 0) where
   either : (t : Bool) (x y : Option Opcode) → (t ≡ true → x ≡ Some o → P) → (y ≡ Some o → P) → cond t x y ≡ Some o → P
@@ -166,9 +163,9 @@ are_zero used f e =
     let a = used.dst || f.dst == 0 in
     let b = used.src || f.src == 0 in
     let c = used.offset || int_eq f.offset (pos 0) in
-    let three = both ((a && b) && c) (used.immediate || int_eq f.immediate (pos 0)) e in
-    let two = both (a && b) c three.0 in
-    let one = both a b two.0 in
+    let three = and_parts ((a && b) && c) (used.immediate || int_eq f.immediate (pos 0)) e in
+    let two = and_parts (a && b) c three.0 in
+    let one = and_parts a b two.0 in
     record {
       dst = zero_nat used.dst f.dst one.0;
       src = zero_nat used.src f.src one.1;
@@ -319,7 +316,7 @@ module _ (f : Fields) (i : Instruction) where
           slot_is (opcode.Arithmetic width (code_of op) InRegister) f (number_of dst) (number_of src) (operation_offset op) (pos 0) (ap (λ (x : ArithmeticCode). byte_of (opcode.Arithmetic width x InRegister)) is.0 ∙ eo) ed es is.1 (none.immediate refl)
 
       by_test : (b : Bool) → (is_move c && not (int_eq f.offset (pos 0))) ≡ b → cond b (option_map (λ kind. instruction.MoveSignExtended kind dst src) (extension_of width f.offset)) (option_map (λ op. instruction.Arithmetic width op dst (source.Register src)) (operation_of c f.offset)) ≡ Some i → fields_of i ≡ f
-      by_test true t = of_map (extension_of width f.offset) (λ kind. instruction.MoveSignExtended kind dst src) (λ kind known. moved kind (both (is_move c) (not (int_eq f.offset (pos 0))) t).0 known)
+      by_test true t = of_map (extension_of width f.offset) (λ kind. instruction.MoveSignExtended kind dst src) (λ kind known. moved kind (and_parts (is_move c) (not (int_eq f.offset (pos 0))) t).0 known)
       by_test false t = of_map (operation_of c f.offset) (λ op. instruction.Arithmetic width op dst (source.Register src)) (λ op known. plain op t known)
   spelled_as (opcode.Negate width) dst src fit eo ed es none e = of_some (instruction.Negate width dst) (slot_is (opcode.Negate width) f (number_of dst) 0 (pos 0) (pos 0) eo ed (none.src refl) (none.offset refl) (none.immediate refl)) e
   spelled_as (opcode.End way) dst src fit eo ed es none e =

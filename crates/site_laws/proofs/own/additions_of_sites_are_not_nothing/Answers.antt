@@ -11,13 +11,14 @@ use Rattle.site_model.specs.Order.{next_outcome}
 use Rattle.site_model.specs.Answer.{answer_of_check, stored_as}
 use Rattle.site_laws.proofs.DecodingLemmas.{whole_length}
 use Rattle.site_laws.proofs.OwnLemmas.{added_by}
-use Rattle.site_laws.proofs.SpelledLemmas.{both, decoded_is_spelled}
+use Rattle.std.proofs.lemmas.Bool.{and_parts}
+use Rattle.site_laws.proofs.SpelledLemmas.{decoded_is_spelled}
 use Rattle.site_laws.proofs.own.additions_of_sites_are_not_nothing.Goals as goal
 
 short_name : (name : List ℕ) → is_name name ≡ true → length name < 2 ^ 8
 short_name name e =
-    let long = both (nat_le 1 (length name) && nat_le (length name) 32) (list_all is_name_byte name) e in
-    let within = (both (nat_le 1 (length name)) (nat_le (length name) 32) long.0).1 in
+    let long = and_parts (nat_le 1 (length name) && nat_le (length name) 32) (list_all is_name_byte name) e in
+    let within = (and_parts (nat_le 1 (length name)) (nat_le (length name) 32) long.0).1 in
     let le : length name ≤ 32 = grind (arith, nat_tests) in
     omega (arith, le)
 
