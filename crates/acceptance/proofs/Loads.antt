@@ -1,12 +1,9 @@
 -- A load without a cause to be refused reads known bytes, and a number of its range.
-use Rattle.std.proofs.Common.{◌≡◌, ℕ, zero, suc, ◌*◌, ◌^◌, ◌<◌, ℤ, pos, false, not, List, length, take, drop, Option, Some, None, refl, sym, ap, subst, ◌∙◌, inl, inr, arith}
-use Rattle.std.specs.Prelude.{◌≤ℤ◌, ◌+ℤ◌, All, slice_index}
+use Rattle.std.proofs.Common.{◌≡◌, ℕ, ◌^◌, ◌<◌, ℤ, pos, false, not, List, length, take, drop, Option, Some, None, refl, sym, ap, subst, ◌∙◌, arith}
+use Rattle.std.specs.Prelude.{◌≤ℤ◌, ◌+ℤ◌}
 use Rattle.std.specs.Option.{is_none}
-use Rattle.std.proofs.lemmas.Bool.{cases_lt, not-false}
-use Rattle.std.proofs.lemmas.List.{get_or_past}
-use Rattle.std.proofs.lemmas.List.Elements.{All-get_or}
-use Rattle.std.proofs.Math.Nat.{pow-succ'}
-use Rattle.byteorder.specs.Endian.{little_number, little_from}
+use Rattle.std.proofs.lemmas.Bool.{not-false}
+use Rattle.byteorder.specs.Endian.{little_number}
 use Rattle.bpf_code.specs.declared.instruction.Register.{Register}
 use Rattle.bpf_code.specs.declared.instruction.LoadKind.{LoadKind}
 use Rattle.bpf_code.specs.declared.instruction.LoadKind.TheVariants.{U8, U16, U32, U64, I8, I16, I32}
@@ -19,7 +16,7 @@ use Rattle.bpf_semantics.specs.State.{State, register}
 use Rattle.bpf_semantics.specs.Memory.{load_value, index_in, stack_index, known_bytes, stack_bytes, args_bytes, memory_bytes}
 use Rattle.bpf_semantics.specs.Step.{execute, with_result}
 use Rattle.bpf_semantics.proofs.StepLemmas.{just}
-use Rattle.bpf_semantics.proofs.FitLemmas.{AreBytes, load_fits, memory_fits}
+use Rattle.bpf_semantics.proofs.FitLemmas.{AreBytes, little_fits, load_fits, memory_fits}
 use Rattle.interval.specs.Range.{IsWithin}
 use Rattle.abs_state.specs.declared.kind.Kind.{Kind}
 use Rattle.abs_state.specs.declared.kind.Kind.TheVariants.{Nothing, Number, Stack, Args}
@@ -75,20 +72,6 @@ loaded args_len known s (Args lo hi) (value.Number n) offset size long are args 
 loaded args_len known s (Args lo hi) (value.Stack p) offset size long are args is some inside initialised = absurd is
 
 -- ---- the number
-
-byte_in : (xs : List ℕ) (i : ℕ) → All (λ b. b < 256) xs → slice_index xs i < 256
-byte_in xs i bytes = elim (cases_lt i (length xs)) [
-  | inl within ↦ All-get_or (λ b. b < 256) xs i 0 within bytes
-  | inr past ↦ subst (λ (k : ℕ). k < 256) (sym (get_or_past xs i 0 past)) (omega arith)
-]
-
-little_fits : (n i : ℕ) (xs : List ℕ) → All (λ b. b < 256) xs → little_from i n xs < 256 ^ n
-little_fits zero i xs bytes = let one : 256 ^ zero ≡ 1 = refl in omega arith
-little_fits (suc n) i xs bytes =
-    let rest = little_fits n (suc i) xs bytes in
-    let here = byte_in xs i bytes in
-    let power : 256 ^ suc n ≡ 256 * 256 ^ n = pow-succ' 256 n in
-    omega arith
 
 number_below : (n : ℕ) (bytes : List ℕ) → AreBytes n bytes → little_number (length bytes) bytes < 256 ^ n
 number_below n bytes are = subst (λ (k : ℕ). little_number (length bytes) bytes < 256 ^ k) are.counted (little_fits (length bytes) 0 bytes are.each)

@@ -140,7 +140,7 @@ byte_in xs i bytes = elim (cases_lt i (length xs)) [
   | inr past ↦ subst (λ (k : ℕ). k < 256) (sym (get_or_past xs i 0 past)) (omega arith)
 ]
 
-little_fits : (n i : ℕ) (xs : List ℕ) → All (λ b. b < 256) xs → little_from i n xs < 256 ^ n
+pub little_fits : (n i : ℕ) (xs : List ℕ) → All (λ b. b < 256) xs → little_from i n xs < 256 ^ n
 little_fits zero i xs bytes = let one : 256 ^ zero ≡ 1 = refl in omega arith
 little_fits (suc n) i xs bytes =
     let rest = little_fits n (suc i) xs bytes in

@@ -1,11 +1,12 @@
 -- How far a run goes, and what stays.
 use Rattle.std.proofs.Common.{◌≡◌, ℕ, zero, suc, ℤ, pos, negsuc, Bool, true, false, cond, ◌+◌, ◌≤◌, List, length, Option, Some, None, refl, sym, ap, subst, ◌∙◌, arith, inl, inr}
+use Rattle.bpf_code.specs.declared.instruction.Register.TheVariants.{R0}
 use Rattle.bpf_code.specs.declared.instruction.Instruction.{Instruction}
 use Rattle.bpf_code.specs.declared.instruction.Instruction.TheVariants.{LoadWide, Load, StoreImmediate, StoreRegister, Arithmetic, Negate, MoveSignExtended, End, Jump, LongJump, Branch, Call, Exit}
 use Rattle.bpf_code.specs.Program.{Program, instruction_at}
 use Rattle.schema.specs.Schema.{Tables}
 use Rattle.schema.specs.Rows.{Rows}
-use Rattle.bpf_semantics.specs.State.{State, past, entry_state}
+use Rattle.bpf_semantics.specs.State.{State, past, entry_state, number, register}
 use Rattle.bpf_semantics.specs.Step.{Moment, Going, Ended, Stuck, or_stuck, after_jump, with_store, execute, step}
 use Rattle.bpf_semantics.specs.Run.{next_moment, moment, Run, run_of, run_at, run}
 use Rattle.bpf_semantics.specs.Path.{fall_through, jump_of, from_there, one_more, path, longest_path}
@@ -46,6 +47,9 @@ ended_stays p tables k (suc n) reply s t e =
 pub ended_is : (r : ℕ) (s : State) (q : ℕ) (t : State) → Ended r s ≡ Ended q t → s ≡ t
 ended_is r s q t e = cc
 
+ended_reply : (r : ℕ) (s : State) (q : ℕ) (t : State) → Ended r s ≡ Ended q t → r ≡ q
+ended_reply r s q t e = cc
+
 pub ending : {X : Type 0} (o : Option X) (next : X → Moment) (r : ℕ) (t : State) → or_stuck o next ≡ Ended r t → (x : X) × (o ≡ Some x) × (next x ≡ Ended r t)
 unfolding or_stuck
 ending None next r t e = absurd cc
@@ -62,25 +66,33 @@ branch_goes false d s r t e = cc
 pub store_goes : (o : Option (List (Option ℕ))) (s : State) (r : ℕ) (t : State) → with_store o s ≡ Ended r t → ⊥
 store_goes o s r t e = let a = ending o _ r t e in let bad = a.2 in cc
 
--- EXIT is counted, and nothing else ends
-pub exit_is : (tables : Tables) (i : Instruction) (s : State) (reply : ℕ) (t : State) → execute tables i s ≡ Ended reply t → past 0 s ≡ t
+-- EXIT is counted, and replies what r0 holds; nothing else ends
+pub exit_ends : (tables : Tables) (i : Instruction) (s : State) (reply : ℕ) (t : State) → execute tables i s ≡ Ended reply t → (past 0 s ≡ t) × (number (register s R0) ≡ just reply)
 unfolding execute
-exit_is tables (LoadWide dst value) s r t e = absurd (set_goes 2 dst _ s r t e)
-exit_is tables (Load kind dst src offset) s r t e = let a = ending _ _ r t e in absurd (set_goes 1 dst _ s r t a.2)
-exit_is tables (StoreImmediate size dst offset immediate) s r t e = absurd (store_goes _ s r t e)
-exit_is tables (StoreRegister size dst src offset) s r t e = let a = ending _ _ r t e in absurd (store_goes _ s r t a.2)
-exit_is tables (Arithmetic width op dst src) s r t e = let a = ending _ _ r t e in absurd (set_goes 1 dst _ s r t a.2)
-exit_is tables (Negate width dst) s r t e = let a = ending _ _ r t e in absurd (set_goes 1 dst _ s r t a.2)
-exit_is tables (MoveSignExtended kind dst src) s r t e = let a = ending _ _ r t e in absurd (set_goes 1 dst _ s r t a.2)
-exit_is tables (End order width dst) s r t e = let a = ending _ _ r t e in absurd (set_goes 1 dst _ s r t a.2)
-exit_is tables (Jump distance) s r t e = absurd (jump_goes distance s r t e)
-exit_is tables (LongJump distance) s r t e = absurd (jump_goes distance s r t e)
-exit_is tables (Branch width condition dst src distance) s r t e =
+exit_ends tables (LoadWide dst value) s r t e = absurd (set_goes 2 dst _ s r t e)
+exit_ends tables (Load kind dst src offset) s r t e = let a = ending _ _ r t e in absurd (set_goes 1 dst _ s r t a.2)
+exit_ends tables (StoreImmediate size dst offset immediate) s r t e = absurd (store_goes _ s r t e)
+exit_ends tables (StoreRegister size dst src offset) s r t e = let a = ending _ _ r t e in absurd (store_goes _ s r t a.2)
+exit_ends tables (Arithmetic width op dst src) s r t e = let a = ending _ _ r t e in absurd (set_goes 1 dst _ s r t a.2)
+exit_ends tables (Negate width dst) s r t e = let a = ending _ _ r t e in absurd (set_goes 1 dst _ s r t a.2)
+exit_ends tables (MoveSignExtended kind dst src) s r t e = let a = ending _ _ r t e in absurd (set_goes 1 dst _ s r t a.2)
+exit_ends tables (End order width dst) s r t e = let a = ending _ _ r t e in absurd (set_goes 1 dst _ s r t a.2)
+exit_ends tables (Jump distance) s r t e = absurd (jump_goes distance s r t e)
+exit_ends tables (LongJump distance) s r t e = absurd (jump_goes distance s r t e)
+exit_ends tables (Branch width condition dst src distance) s r t e =
     let a = ending _ _ r t e in
     let b = ending _ _ r t a.2 in
     absurd (branch_goes _ distance s r t b.2)
-exit_is tables (Call helper) s r t e = let a = ending _ _ r t e in let bad = a.2 in absurd cc
-exit_is tables Exit s r t e = let a = ending _ _ r t e in ended_is a.0 (past 0 s) r t a.2
+exit_ends tables (Call helper) s r t e = let a = ending _ _ r t e in let bad = a.2 in absurd cc
+exit_ends tables Exit s r t e =
+    let a = ending _ _ r t e in
+    (ended_is a.0 (past 0 s) r t a.2, a.1 ∙ ap (λ (n : ℕ). just n) (ended_reply a.0 (past 0 s) r t a.2))
+
+pub exit_is : (tables : Tables) (i : Instruction) (s : State) (reply : ℕ) (t : State) → execute tables i s ≡ Ended reply t → past 0 s ≡ t
+exit_is tables i s reply t e = (exit_ends tables i s reply t e).0
+
+pub exit_reply : (tables : Tables) (i : Instruction) (s : State) (reply : ℕ) (t : State) → execute tables i s ≡ Ended reply t → number (register s R0) ≡ just reply
+exit_reply tables i s reply t e = (exit_ends tables i s reply t e).1
 
 exit_counts : (tables : Tables) (i : Instruction) (s : State) (reply : ℕ) (t : State) → execute tables i s ≡ Ended reply t → t.steps ≡ s.steps + 1
 exit_counts tables i s reply t e = sym (ap (λ (u : State). u.steps) (exit_is tables i s reply t e))

@@ -1,17 +1,16 @@
 -- Runs on rows of the schema and arguments of bytes stay in states that fit: helpers, steps and runs.
-use Rattle.std.proofs.Common.{◌≡◌, ◌≢◌, ℕ, zero, suc, ℤ, pos, negsuc, Bool, true, false, cond, ◌+◌, ◌*◌, ◌^◌, ◌%◌, ◌<◌, ◌≤◌, List, [], ◌∷◌, ◌++◌, length, take, drop, Option, Some, None, refl, sym, ap, subst, ◌∙◌, arith, get_or}
-use Rattle.std.specs.Prelude.{nat_le, is_some, IsSome, IfSome, All, replicate}
-use Rattle.std.specs.FinMap.{get, len, empty, len-insert}
+use Rattle.std.proofs.Common.{◌≡◌, ◌≢◌, ℕ, zero, suc, ℤ, pos, negsuc, Bool, true, false, cond, ◌+◌, ◌^◌, ◌<◌, ◌≤◌, List, [], ◌∷◌, ◌++◌, length, drop, Option, Some, None, refl, sym, ap, subst, ◌∙◌, arith, get_or}
+use Rattle.std.specs.Prelude.{nat_le, is_some, IsSome, All, replicate}
+use Rattle.std.specs.FinMap.{get}
 use Rattle.std.proofs.lemmas.Bool.Decides.{nat_tests}
 use Rattle.std.proofs.lemmas.List.{length-drop, length-append, length-set, length-replicate, get_or-set_other, get_or-drop, get_or-append-add}
 use Rattle.std.proofs.lemmas.List.Elements.{All-drop, All-append, All-set, All-replicate, All-get_or, All-nil, All-cons}
-use Rattle.byteorder.specs.Endian.{little_number, little_bytes}
+use Rattle.byteorder.specs.Endian.{little_bytes}
 use Rattle.bpf_words.specs.declared.operation.Operation.TheVariants.{Neg, Movsx}
 use Rattle.bpf_words.specs.declared.operation.ByteOrder.{ByteOrder}
 use Rattle.bpf_words.specs.declared.operation.EndWidth.{EndWidth}
 use Rattle.bpf_words.specs.declared.operation.EndWidth.TheVariants.{Low16, Low32, Low64}
-use Rattle.bpf_words.specs.Operation.{alu}
-use Rattle.bpf_words.specs.End.{end_value, end_bits}
+use Rattle.bpf_words.specs.End.{end_value}
 use Rattle.bpf_words.specs.Condition.{holds}
 use Rattle.bpf_words.proofs.Words.{ended_below}
 use Rattle.bpf_code.specs.declared.instruction.Register.{Register}
@@ -22,29 +21,29 @@ use Rattle.bpf_code.specs.declared.instruction.Instruction.{Instruction}
 use Rattle.bpf_code.specs.declared.instruction.Instruction.TheVariants.{LoadWide, Load, StoreImmediate, StoreRegister, Arithmetic, Negate, MoveSignExtended, End, Jump, LongJump, Branch, Call, Exit}
 use Rattle.bpf_code.specs.Register.{number_of}
 use Rattle.bpf_code.specs.Sizes.{size_bytes, load_bytes, width_bits, extension_width}
-use Rattle.bpf_code.specs.Program.{Program, instruction_at, IsInRange, AllInRange}
+use Rattle.bpf_code.specs.Program.{Program, IsInRange, AllInRange}
 use Rattle.std.proofs.lemmas.Int.{ints}
 use Rattle.std.specs.Int.{w64, cast_unsigned}
 use Rattle.bpf_code.proofs.RangeLemmas.{range_at}
 use Rattle.schema.specs.Schema.{Tables}
 use Rattle.schema.specs.declared.look.Look.{Look}
-use Rattle.schema.specs.Rows.{Key, Rows, Writes, IsKey, IsRow, IsWrite, AreRows, AreWrites, row_at, first_in, after_write, with_write, after_writes, key_cmp, key_cmp_total}
+use Rattle.schema.specs.Rows.{Key, Rows, IsKey, IsRow, AreRows, row_at, first_in}
 use Rattle.schema.specs.Helper.{helper_of}
 use Rattle.schema.specs.declared.helper.Helper.{Helper}
 use Rattle.schema.specs.declared.helper.Helper.TheVariants.{RowGet, RowPut, RowDelete, RangeCount, RangeNext, Cancel}
-use Rattle.schema.proofs.RowsLemmas.{no_writes, rows_with_put, rows_with_removal, writes_with_put, writes_with_removal, rows_with_writes}
+use Rattle.schema.proofs.RowsLemmas.{no_writes, rows_with_put, rows_with_removal, writes_with_put, writes_with_removal}
 use Rattle.schema.proofs.LookLemmas.{is_first}
 use Rattle.schema.proofs.SplitLemmas.{inside_look}
 use Rattle.bpf_semantics.specs.declared.value.Value.{Value}
 use Rattle.bpf_semantics.specs.declared.value.Value.TheVariants.{Nothing, Number, Stack, Args}
-use Rattle.bpf_semantics.specs.State.{State, register, with_register, past, entry_state, number}
-use Rattle.bpf_semantics.specs.Memory.{stack_with, known_bytes, memory_bytes, memory_with_store}
+use Rattle.bpf_semantics.specs.State.{State, register, with_register, past, entry_state}
+use Rattle.bpf_semantics.specs.Memory.{stack_with, memory_with_store}
 use Rattle.bpf_semantics.specs.Helpers.{Table, table_of, state_after_call, row_get, row_put, range_count, range_next, with_answer, with_stack, with_look, with_point_look, with_range_look, with_row_write, with_row_read, with_next_read, look_at, last_seen, row_or_zeros, key_or_zeros, row_of, flag}
 use Rattle.bpf_semantics.specs.Run.{moment, next_moment}
 use Rattle.bpf_semantics.specs.Step.{Moment, Going, Ended, Stuck, operand, low_bits, is_read_only, after_jump, with_result, with_store, execute, step}
 use Rattle.bpf_semantics.specs.Fit.{IsPlace, IsValue, IsStackByte, IsLook, IsState}
-use Rattle.bpf_semantics.proofs.StepLemmas.{just, bound, going_on, some_is, going_is, set_goes}
-use Rattle.bpf_semantics.proofs.RunLemmas.{ending, jump_goes, branch_goes, store_goes, exit_is, step_runs, going_runs, ended_runs}
+use Rattle.bpf_semantics.proofs.StepLemmas.{just, bound, going_on, some_is, going_is}
+use Rattle.bpf_semantics.proofs.RunLemmas.{exit_is, exit_reply, step_runs, going_runs, ended_runs}
 use Rattle.bpf_semantics.proofs.FitLemmas.{PlaceFits, place_part, number_fits, alu_fits, operation_fits, load_fits, AreBytes, low_bytes_are, memory_fits, stack_part_fits, IsWhole, overwrite_fits, buffer_within, store_fits}
 
 abbrev none : {X : Type 0} → Option X
@@ -405,29 +404,6 @@ execute_fits tables (Call helper) s t range e h =
 execute_fits tables Exit s t range e h = let a = going_on _ _ t e in absurd cc
 
 -- ---- runs
-
-ended_reply : (r : ℕ) (s : State) (q : ℕ) (t : State) → Ended r s ≡ Ended q t → r ≡ q
-ended_reply r s q t e = cc
-
--- EXIT replies what r0 holds
-exit_reply : (tables : Tables) (i : Instruction) (s : State) (reply : ℕ) (t : State) → execute tables i s ≡ Ended reply t → number (register s R0) ≡ just reply
-unfolding execute
-exit_reply tables (LoadWide dst value) s r t e = absurd (set_goes 2 dst _ s r t e)
-exit_reply tables (Load kind dst src offset) s r t e = let a = ending _ _ r t e in absurd (set_goes 1 dst _ s r t a.2)
-exit_reply tables (StoreImmediate size dst offset immediate) s r t e = absurd (store_goes _ s r t e)
-exit_reply tables (StoreRegister size dst src offset) s r t e = let a = ending _ _ r t e in absurd (store_goes _ s r t a.2)
-exit_reply tables (Arithmetic width op dst src) s r t e = let a = ending _ _ r t e in absurd (set_goes 1 dst _ s r t a.2)
-exit_reply tables (Negate width dst) s r t e = let a = ending _ _ r t e in absurd (set_goes 1 dst _ s r t a.2)
-exit_reply tables (MoveSignExtended kind dst src) s r t e = let a = ending _ _ r t e in absurd (set_goes 1 dst _ s r t a.2)
-exit_reply tables (End order width dst) s r t e = let a = ending _ _ r t e in absurd (set_goes 1 dst _ s r t a.2)
-exit_reply tables (Jump distance) s r t e = absurd (jump_goes distance s r t e)
-exit_reply tables (LongJump distance) s r t e = absurd (jump_goes distance s r t e)
-exit_reply tables (Branch width condition dst src distance) s r t e =
-    let a = ending _ _ r t e in
-    let b = ending _ _ r t a.2 in
-    absurd (branch_goes _ distance s r t b.2)
-exit_reply tables (Call helper) s r t e = let a = ending _ _ r t e in let bad = a.2 in absurd cc
-exit_reply tables Exit s r t e = let a = ending _ _ r t e in a.1 ∙ ap (λ (n : ℕ). just n) (ended_reply a.0 (past 0 s) r t a.2)
 
 entry_fits : (tables : Tables) (args : List ℕ) (rows : Rows) → All (λ b. b < 256) args → AreRows tables rows → IsState tables (entry_state args rows)
 entry_fits tables args rows bytes are =
