@@ -5,21 +5,21 @@ use Rattle.node.specs.declared.options.Options.{Options}
 use Rattle.node.specs.declared.options.StartFault.{StartFault}
 use Rattle.node.specs.declared.options.StartFault.TheVariants.{Replicas, Executors, Window, NoMemory, NoThread, Limit}
 
-abbrev pub IsWithin : ℕ → ℕ → Type 0
-IsWithin limit n = (1 ≤ n) × (n ≤ limit)
+abbrev pub IsFromOneTo : ℕ → ℕ → Type 0
+IsFromOneTo limit n = (1 ≤ n) × (n ≤ limit)
 
 pub record AreInBounds (o : Options) : Type 0 where
-  pub replicas : IsWithin MAX_REPLICAS o.replicas
-  pub executors : IsWithin MAX_EXECUTORS o.executors
-  pub window : IsWithin MAX_WINDOW o.window
-  pub limit : IsWithin MAX_LOG o.limit
+  pub replicas : IsFromOneTo MAX_REPLICAS o.replicas
+  pub executors : IsFromOneTo MAX_EXECUTORS o.executors
+  pub window : IsFromOneTo MAX_WINDOW o.window
+  pub limit : IsFromOneTo MAX_LOG o.limit
 
 -- the first option that is out of its bounds, in the order in which they are tested
 abbrev pub IsOptionsFault : Options → StartFault → Type 0
-IsOptionsFault o Replicas = IsWithin MAX_REPLICAS o.replicas → ⊥
-IsOptionsFault o Executors = IsWithin MAX_REPLICAS o.replicas × (IsWithin MAX_EXECUTORS o.executors → ⊥)
-IsOptionsFault o Window = IsWithin MAX_REPLICAS o.replicas × IsWithin MAX_EXECUTORS o.executors × (IsWithin MAX_WINDOW o.window → ⊥)
-IsOptionsFault o Limit = IsWithin MAX_REPLICAS o.replicas × IsWithin MAX_EXECUTORS o.executors × IsWithin MAX_WINDOW o.window × (IsWithin MAX_LOG o.limit → ⊥)
+IsOptionsFault o Replicas = IsFromOneTo MAX_REPLICAS o.replicas → ⊥
+IsOptionsFault o Executors = IsFromOneTo MAX_REPLICAS o.replicas × (IsFromOneTo MAX_EXECUTORS o.executors → ⊥)
+IsOptionsFault o Window = IsFromOneTo MAX_REPLICAS o.replicas × IsFromOneTo MAX_EXECUTORS o.executors × (IsFromOneTo MAX_WINDOW o.window → ⊥)
+IsOptionsFault o Limit = IsFromOneTo MAX_REPLICAS o.replicas × IsFromOneTo MAX_EXECUTORS o.executors × IsFromOneTo MAX_WINDOW o.window × (IsFromOneTo MAX_LOG o.limit → ⊥)
 IsOptionsFault o NoMemory = ⊥
 IsOptionsFault o NoThread = ⊥
 

@@ -1,7 +1,7 @@
 //! The options of a node.
 
 ghost use Rattle.std.specs.Prelude.{◌≤◌, ◌↔◌, IsTrue, OnOk, IfErr};
-ghost use Rattle.node.specs.Options.{AreInBounds, IsOptionsFault, IsWithin};
+ghost use Rattle.node.specs.Options.{AreInBounds, IsOptionsFault, IsFromOneTo};
 
 use schema::{MAX_EXECUTORS, MAX_LOG, MAX_REPLICAS, MAX_WINDOW};
 
@@ -35,8 +35,8 @@ pub struct Options {
 }
 
 /// Tells whether a number is from 1 to a limit.
-fn is_within(limit: u32, number: u32) -> bool
-    ensures { IsTrue result ↔ IsWithin limit number }
+fn is_from_one_to(limit: u32, number: u32) -> bool
+    ensures { IsTrue result ↔ IsFromOneTo limit number }
 {
     1 <= number && number <= limit
 }
@@ -47,16 +47,16 @@ impl Options {
         ensures bounds { OnOk result (AreInBounds self.now) }
         ensures fault { IfErr result (IsOptionsFault self.now) }
     {
-        if !is_within(MAX_REPLICAS, self.replicas) {
+        if !is_from_one_to(MAX_REPLICAS, self.replicas) {
             return Err(StartFault::Replicas);
         }
-        if !is_within(MAX_EXECUTORS, self.executors) {
+        if !is_from_one_to(MAX_EXECUTORS, self.executors) {
             return Err(StartFault::Executors);
         }
-        if !is_within(MAX_WINDOW, self.window) {
+        if !is_from_one_to(MAX_WINDOW, self.window) {
             return Err(StartFault::Window);
         }
-        if !is_within(MAX_LOG, self.limit) {
+        if !is_from_one_to(MAX_LOG, self.limit) {
             return Err(StartFault::Limit);
         }
         Ok(())

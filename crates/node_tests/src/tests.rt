@@ -108,10 +108,10 @@ fn sum_of(counts: &Counts) -> u64 {
         .wrapping_add(counts.other)
 }
 
-/// A case at a node of a size, with the bytes of a program that may be added.
+/// A case at a node with these options, with the bytes of a program that may be added.
 #[derive(Clone, Copy)]
 struct Trial<'a> {
-    size: Options,
+    options: Options,
     case: Case,
     program: &'a [u8],
 }
@@ -131,7 +131,7 @@ impl<'a> Asked for Trial<'a> {
     }
 
     fn asking(&self, place: usize, index: usize) -> Option<Asking> {
-        let replicas = self.size.replicas;
+        let replicas = self.options.replicas;
         match self.case {
             Case::OneSession => one_session(index),
             Case::Overlap => overlap(place, index),
@@ -154,7 +154,7 @@ impl<'a> Asked for Trial<'a> {
     fn is_told(&self, place: usize, index: usize, told: &Told) -> bool {
         match self.case {
             Case::OneSession => is_one_session(index, told),
-            Case::Overlap => is_overlap(self.size.executors == 1, place, told),
+            Case::Overlap => is_overlap(self.options.executors == 1, place, told),
             Case::Together => is_together(told),
             Case::TwoPuts => is_as_in(&TWO_PUTS, index, told),
             Case::Adds => true,
@@ -174,7 +174,7 @@ impl<'a> Asked for Trial<'a> {
 
 /// Asserts that answers, sums, positions, commits and rows agree with what was asked, and with each other.
 fn check_end(rt: &impl Abort, ending: &Ending, trial: Trial<'_>, end: End) {
-    let Trial { size, case, .. } = trial;
+    let Trial { options, case, .. } = trial;
     let totals = ending.totals;
     assert_eq!(rt; ending.stray, None);
     assert_eq!(rt; sum_of(&totals), end.answers);
@@ -183,7 +183,7 @@ fn check_end(rt: &impl Abort, ending: &Ending, trial: Trial<'_>, end: End) {
             .is_none_or(|committed| committed == totals.committed)
     );
     assert!(rt; ending.agreement);
-    assert_eq!(rt; ending.replicas.len(), size.replicas as usize);
+    assert_eq!(rt; ending.replicas.len(), options.replicas as usize);
     for replica in &ending.replicas {
         assert!(rt; !replica.stopped);
         // An addition that is ordered commits, and is no answer to a call.
@@ -210,7 +210,7 @@ fn try_at_a_node<R: Threads + Wait + Abort + Copy + Send + Sync + 'static>(
     case: Case,
 ) {
     let (replicas, executors, window, limit) = size;
-    let size = Options {
+    let options = Options {
         replicas,
         executors,
         window,
@@ -218,7 +218,7 @@ fn try_at_a_node<R: Threads + Wait + Abort + Copy + Send + Sync + 'static>(
     };
     let program = bytes_of(alloc, ONE).expect(rt, "a program");
     let trial = Trial {
-        size,
+        options,
         case,
         program: &program,
     };
@@ -226,7 +226,7 @@ fn try_at_a_node<R: Threads + Wait + Abort + Copy + Send + Sync + 'static>(
         case,
         Case::Overlap | Case::Together | Case::Conflict | Case::Late | Case::Busy
     );
-    let ending = run_at_a_node(rt, alloc, size, armed, &PROCEDURES, &trial, 5);
+    let ending = run_at_a_node(rt, alloc, options, armed, &PROCEDURES, &trial, 5);
     check_end(rt, &ending.expect(rt, "a node"), trial, case.end());
 }
 

@@ -152,7 +152,7 @@ fn run_script<R: Threads + Wait + Copy + Send + Sync + 'static, E: Write>(
     let Ok(cells) = GroupCells::new(alloc) else {
         return Err(Failure::Start(StartFault::NoMemory));
     };
-    let size = Options {
+    let node_options = Options {
         replicas,
         executors: options.executors,
         window,
@@ -164,7 +164,7 @@ fn run_script<R: Threads + Wait + Copy + Send + Sync + 'static, E: Write>(
         alloc,
         cells,
         blanks,
-        size,
+        node_options,
         catalogue,
         calls,
         faults,
@@ -182,7 +182,7 @@ fn run_on_node<
     alloc: Global,
     cells: GroupCells,
     blanks: Blanks,
-    size: Options,
+    options: Options,
     catalogue: Catalogue,
     calls: Vec<ScriptCall<Bytes<Global>>>,
     faults: &mut E,
@@ -190,15 +190,15 @@ fn run_on_node<
 ) -> Result<Report, Failure>
     requires cells { cells ≡ J.groups }
     requires ledgers { J.names ≡ names_by_place blanks }
-    requires setting { J.setting ≡ system_setting catalogue size.window }
-    ensures run { IfOk result (λ report. IsRun J.setting size.replicas calls.items (report_of report)) }
+    requires setting { J.setting ≡ system_setting catalogue options.window }
+    ensures run { IfOk result (λ report. IsRun J.setting options.replicas calls.items (report_of report)) }
     ensures silent { shows_progress ≡ false → faults.new ≡ faults.old }
 {
-    let Ok(asking) = Asking::<J>::new(alloc, &catalogue, size.replicas, calls) else {
+    let Ok(asking) = Asking::<J>::new(alloc, &catalogue, options.replicas, calls) else {
         return Err(Failure::NoMemory);
     };
     let started = Node::<J, OpenGate>::start_with(
-        rt, alloc, cells, blanks, size, catalogue, OpenGate,
+        rt, alloc, cells, blanks, options, catalogue, OpenGate,
     );
     let node = match started {
         Ok(node) => node,
@@ -209,7 +209,7 @@ fn run_on_node<
         alloc,
         node.desk(),
         &asking,
-        size.executors,
+        options.executors,
         faults,
         shows_progress,
     );

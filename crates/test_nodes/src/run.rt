@@ -21,8 +21,8 @@ use test_programs::{TABLES, catalogue_of};
 
 /// The parts of a node that is to be started.
 #[derive(Drop)]
-struct Parts {
-    size: Options,
+struct NodeParts {
+    options: Options,
     catalogue: Catalogue,
     gate: HoldingGate,
 }
@@ -44,21 +44,21 @@ fn run_node<
     alloc: Global,
     cells: GroupCells,
     blanks: Blanks,
-    parts: Parts,
+    parts: NodeParts,
     inquiry: Inquiry<'_, A>,
 ) -> Option<Ending>
     requires cells { cells ≡ J.groups }
     requires ledgers { J.names ≡ names_by_place blanks }
-    requires setting { J.setting ≡ system_setting parts.catalogue parts.size.window }
+    requires setting { J.setting ≡ system_setting parts.catalogue parts.options.window }
 {
-    let Parts {
-        size,
+    let NodeParts {
+        options,
         catalogue,
         gate,
     } = parts;
     let Inquiry { asked, hold, key } = inquiry;
     let started = Node::<J, HoldingGate>::start_with(
-        rt, alloc, cells, blanks, size, catalogue, gate,
+        rt, alloc, cells, blanks, options, catalogue, gate,
     );
     let node = started.ok()?;
     let stray = ask_all(rt, alloc, node.desk(), hold, asked);
@@ -66,14 +66,14 @@ fn run_node<
     ending_of(rt, alloc, &finish, key, stray)
 }
 
-/// Makes a node of a size, with these procedures over table 1 of rows of 8 bytes. A procedure is a number, a program,
+/// Makes a node with these options and procedures over table 1 of rows of 8 bytes. A procedure is a number, a program,
 /// and the number of words that the program takes. Has the node asked, its calls of procedure 1 held where its gate is
 /// armed, and finishes it. Returns the node's end, with its replicas' rows at a key. Returns `None` where the node
 /// can't be made, or memory is wanting.
 pub fn run_at_a_node<R: Threads + Wait + Copy + Send + Sync + 'static, A: Asked + Sync>(
     rt: &R,
     alloc: Global,
-    size: Options,
+    options: Options,
     armed: bool,
     procedures: &[(u16, &str, usize)],
     asked: &A,
@@ -81,8 +81,8 @@ pub fn run_at_a_node<R: Threads + Wait + Copy + Send + Sync + 'static, A: Asked 
 ) -> Option<Ending> {
     let (gate, hold) = gate_of(alloc, armed)?;
     let cells = GroupCells::new(alloc).ok()?;
-    let parts = Parts {
-        size,
+    let parts = NodeParts {
+        options,
         catalogue: catalogue_of(alloc, &TABLES, procedures)?,
         gate,
     };

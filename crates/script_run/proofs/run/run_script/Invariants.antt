@@ -4,7 +4,7 @@ use Rattle.catalogue.specs.Catalogue.{system_setting}
 
 -- the node whose log's cells and ledgers were just made, of this catalogue and window
 abbrev pub ghosts-run_on_node-J-LogSetting : goal.ghosts-run_on_node-J-LogSetting
-ghosts-run_on_node-J-LogSetting g a = record { setting = system_setting a.catalogue a.size.window }
+ghosts-run_on_node-J-LogSetting g a = record { setting = system_setting a.catalogue a.options.window }
 
 abbrev pub ghosts-run_on_node-J-LogIdentity : goal.ghosts-run_on_node-J-LogIdentity
 ghosts-run_on_node-J-LogIdentity g a = record { groups = a.cells }
