@@ -16,17 +16,10 @@ use std::marker::Model;
 use std::sync::{Arc, Wait};
 use std::thread;
 use std::thread::{JoinHandle, Threads};
-use tallies::{Ledgers, Tally};
+use tallies::{FreshTally, Ledgers, Tally};
 
 /// The number of places in the queue of a replica.
 const QUEUE: usize = 256;
-
-/// The tally with which an executing thread begins, with nothing counted.
-#[derive(Drop)]
-struct FreshTally<J: Ledgers> {
-    tally: Tally<J>,
-    ghost fresh: { tally ≡ record { threads = 1; counts = no_counts } },
-}
 
 /// The tally with which an executing thread ends.
 #[derive(Drop)]
@@ -35,19 +28,19 @@ pub(crate) struct ThreadTally<J: Ledgers> {
     ghost one: { tally.threads ≡ 1 },
 }
 
-impl<J: LogSetting + Ledgers> FreshTally<J> {
-    /// Runs an executing thread to its end. The tally then has what the thread counted.
-    fn serve<G: Gate, R: Wait>(
-        self,
+impl<J: LogSetting + Ledgers> ThreadTally<J> {
+    /// Runs an executing thread to its end. Returns what the thread counted.
+    fn of_thread<G: Gate, R: Wait>(
         rt: &R,
         shared: &Shared<J, Global, Global, G>,
         replica: u32,
         thread: usize,
         asked: &Receiver<Arc<Calls<J>>>,
+        fresh: FreshTally<J>,
     ) -> ThreadTally<J> {
-        let mut tally = self.tally;
-        serve(rt, shared, replica, thread, asked, &mut tally);
-        ThreadTally { tally }
+        ThreadTally {
+            tally: serve(rt, shared, replica, thread, asked, fresh),
+        }
     }
 }
 
@@ -144,12 +137,10 @@ impl<J: LogSetting + Ledgers + Send + Sync + 'static> Crew<J> {
         let Ok(asked) = asked.clone() else {
             return Err(StartFault::NoMemory);
         };
-        let mine = FreshTally {
-            tally: tally.split(),
-        };
+        let fresh = tally.split();
         let runtime = *rt;
         let child = thread::spawn(rt, move || {
-            mine.serve(&runtime, &theirs, replica, thread as usize, &asked)
+            ThreadTally::of_thread(&runtime, &theirs, replica, thread as usize, &asked, fresh)
         });
         let Ok(child) = child else {
             return Err(StartFault::NoThread);

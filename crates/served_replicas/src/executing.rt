@@ -15,7 +15,7 @@ use node_calls::{Asked, Executor, Gate, LOOKS, pause};
 use order_log::Fact;
 use std::alloc::Allocator;
 use std::sync::{Arc, Wait};
-use tallies::{GRANT, Ledgers, Tally};
+use tallies::{FreshTally, GRANT, Ledgers, Tally};
 
 /// Answers a call, and makes the reply of the answer, which is counted by its kind.
 fn reply_to<J: LogSetting + Ledgers, A: Allocator + Copy, P: Allocator + Copy, G: Gate, R: Wait>(
@@ -97,24 +97,23 @@ fn answer_all<J: LogSetting + Ledgers, A: Allocator + Copy, P: Allocator + Copy,
 
 /// Runs an executing thread of a replica. The thread goes by its place from 0 on, the replica by its number from 1 on.
 /// The thread answers calls until no caller is left, and counts each answer that it gives: no reply can be made without
-/// a part of the tally.
+/// a part of the tally. Returns the tally.
 pub fn serve<J: LogSetting + Ledgers, A: Allocator + Copy, P: Allocator + Copy, G: Gate, R: Wait>(
     rt: &R,
     shared: &Shared<J, A, P, G>,
     replica: u32,
     thread: usize,
     asked: &Receiver<Arc<Calls<J, P>, P>, P>,
-    tally: &mut Tally<J>,
-)
-    requires threads { 1 ≤ tally.old.threads }
-    requires nothing { tally.old.counts ≡ no_counts }
-    ensures { tally.new.threads ≡ tally.old.threads }
+    fresh: FreshTally<J>,
+) -> Tally<J>
+    ensures { result.threads ≡ 1 }
 {
+    let mut tally = fresh.begin();
     let Some(served) = shared.replica(replica) else {
-        return;
+        return tally;
     };
     let Some(waiter) = served.served.waiters.get(thread) else {
-        return;
+        return tally;
     };
     let executor = Executor {
         alloc: shared.alloc,
@@ -125,5 +124,6 @@ pub fn serve<J: LogSetting + Ledgers, A: Allocator + Copy, P: Allocator + Copy, 
         bells: &shared.bells,
         bell: replica.saturating_sub(1) as usize,
     };
-    answer_all(rt, &executor, replica, asked, tally);
+    answer_all(rt, &executor, replica, asked, &mut tally);
+    tally
 }

@@ -7,7 +7,7 @@ pub use counts::Counts;
 pub use kinds::AnswerKind;
 pub use ledgers::{GRANT, Ledgers, THREADS};
 pub use parts::Parts;
-pub use tally::Tally;
+pub use tally::{FreshTally, Tally};
 
 mod blanks;
 mod counts;

@@ -39,20 +39,20 @@ impl<J: Ledgers> Tally<J> {
     }
 
     /// Takes off what a thread counts with, before anything is counted.
-    pub fn split(&mut self) -> Tally<J>
+    pub fn split(&mut self) -> FreshTally<J>
         requires threads { 1 ≤ self.old.threads }
         requires nothing { self.old.counts ≡ no_counts }
-        ensures one { result ≡ record { threads = 1; counts = no_counts } }
         ensures left { self.new.threads + 1 ≡ self.old.threads }
         ensures same { self.new.counts ≡ no_counts }
     {
         let left = self.left.take(Counts::of_each(GRANT));
         self.threads -= 1;
-        Tally {
+        let tally = Tally {
             threads: 1,
             counts: Counts::new(),
             left,
-        }
+        };
+        FreshTally { tally }
     }
 
     /// Counts an answer of a kind. Returns the part of the kind's ledger that shows that an answer was counted.
@@ -115,5 +115,21 @@ impl<J: Ledgers> Tally<J> {
         ensures same { (self.new ≡ self.old) × (parts.new ≡ parts.old) }
     {
         self.left.are_apart(parts);
+    }
+}
+
+/// The tally of one thread, in which nothing is counted yet.
+#[derive(Drop)]
+pub struct FreshTally<J: Ledgers> {
+    tally: Tally<J>,
+    ghost fresh: { tally ≡ record { threads = 1; counts = no_counts } },
+}
+
+impl<J: Ledgers> FreshTally<J> {
+    /// Begins to count.
+    pub fn begin(self) -> Tally<J>
+        ensures { result ≡ record { threads = 1; counts = no_counts } }
+    {
+        self.tally
     }
 }

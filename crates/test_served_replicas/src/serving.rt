@@ -1,7 +1,6 @@
 //! Two replicas in memory of their own, the threads of a scope that serve and deliver to them, and who asks both.
 
 ghost use Rattle.std.specs.Prelude.{◌≡◌};
-ghost use Rattle.tallies.specs.Counted.{no_counts};
 ghost use Rattle.tallies.specs.Tallies.{names_by_place};
 ghost use Rattle.catalogue.specs.Catalogue.{system_setting};
 
@@ -18,7 +17,7 @@ use std::alloc::{AllocError, Allocator, Global};
 use std::sync::{Arc, Wait};
 use std::thread;
 use std::thread::Threads;
-use tallies::{Blanks, Ledgers, Tally};
+use tallies::{Blanks, FreshTally, Ledgers};
 
 /// The parts that two replicas share, each in memory of its own of the first kind. Calls and entries take memory of the
 /// second.
@@ -42,13 +41,6 @@ struct Asker<'a, P: Allocator + Copy> {
     case: &'a mut Case,
 }
 
-/// The tally with which a replica's thread begins.
-#[derive(Drop)]
-struct FreshTally<J: Ledgers> {
-    tally: Tally<J>,
-    ghost fresh: { tally ≡ record { threads = 1; counts = no_counts } },
-}
-
 /// The ends of the channels to both replicas, and the tallies in which each counts its answers.
 #[derive(Drop)]
 struct Served<'a, J: LogSetting + Ledgers, P: Allocator + Copy> {
@@ -65,8 +57,7 @@ fn serve_one<J: LogSetting + Ledgers, A: Allocator + Copy, P: Allocator + Copy, 
     asked: &Receiver<Arc<Calls<J, P>, P>, P>,
     fresh: FreshTally<J>,
 ) {
-    let mut tally = fresh.tally;
-    serve(rt, shared, replica, 0, asked, &mut tally);
+    serve(rt, shared, replica, 0, asked, fresh);
 }
 
 /// Asks both, and lets the channels to them go, so that nobody serves them any more. Returns the first answer that may
@@ -209,12 +200,8 @@ pub fn try_two<
     requires setting { J.setting ≡ system_setting start.catalogue start.window }
 {
     let mut whole = blanks.open();
-    let one = FreshTally {
-        tally: whole.split(),
-    };
-    let other = FreshTally {
-        tally: whole.split(),
-    };
+    let one = whole.split();
+    let other = whole.split();
     let shared: TwoReplicas<J, A, P> = shared_by(global, alloc, cells, start, replicas)?;
     memories.1.refuse_all(matches!(case, Case::Stopped(_)));
     let mut asker = Asker {
