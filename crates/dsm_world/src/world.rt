@@ -186,9 +186,9 @@ impl<A: Allocator + Copy> World<A> {
     ///
     /// The following holds whatever the steps are, and whichever of them find no memory. The steps go on as the
     /// definitions of the world say, and each open call is sound. Each ordered call is committed exactly where the
-    /// written test says so, and no two committed calls carry one request. The verdicts, rows and procedures that a replica keeps are those of the log as far as the
-    /// replica has come. A reply that was answered is that of the call run in its turn, where the call commits; and
-    /// enough turns have answered a reply.
+    /// written test says so, and no two committed calls carry one request. The verdicts, rows and procedures that a
+    /// replica keeps are those of the log as far as the replica has come. A reply that was answered is that of the call
+    /// run in its turn, where the call commits; and enough turns have answered a reply.
     pub fn run(&mut self, steps: &[Step<'_>]) -> Result<Vec<Outcome, A>, AllocError>
         ensures steps { IfOk result (λ outcomes. AreSteps (setting_of self.old) (world_of self.old)
             (map (step_of (setting_of self.old)) steps.now) outcomes.items (world_of self.new)) }

@@ -30,7 +30,7 @@ pub(crate) struct ThreadTally<J: Ledgers> {
 
 impl<J: LogSetting + Ledgers> ThreadTally<J> {
     /// Runs an executing thread to its end. Returns what the thread counted.
-    fn of_thread<G: Gate, R: Wait>(
+    fn serve<G: Gate, R: Wait>(
         rt: &R,
         shared: &Shared<J, Global, Global, G>,
         replica: u32,
@@ -140,7 +140,7 @@ impl<J: LogSetting + Ledgers + Send + Sync + 'static> Crew<J> {
         let fresh = tally.split();
         let runtime = *rt;
         let child = thread::spawn(rt, move || {
-            ThreadTally::of_thread(&runtime, &theirs, replica, thread as usize, &asked, fresh)
+            ThreadTally::serve(&runtime, &theirs, replica, thread as usize, &asked, fresh)
         });
         let Ok(child) = child else {
             return Err(StartFault::NoThread);

@@ -206,22 +206,22 @@ impl Caller {
         }
     }
 
-    /// Makes the calls of a soak at a replica, one behind the other. The first caller at a replica has it made anew where
-    /// it has stopped. Returns what was told.
+    /// Makes the calls of a soak at a replica, one behind the other. The first caller at a replica has the replica made
+    /// anew where the replica has stopped. Returns what was told.
     fn soak<J: LogSetting + Ledgers + Send + Sync + 'static, R: Wait>(
         &mut self,
         rt: &R,
         desk: &Desk<J, OpenGate>,
         replica: u32,
         calls: u32,
-    ) -> Told {
+    ) -> AnswerCounts {
         let mut session = Session::new(desk);
-        let mut told = Told::new();
+        let mut told = AnswerCounts::new();
         for _ in 0..calls {
             let answer = self.call(rt, &mut session, replica);
             told.count(answer);
             if self.number == replica && matches!(answer, Answer::Stopped { .. }) {
-                // Where memory is wanting for that, a later answer of the kind has it tried again.
+                // Where a rebuild finds no memory, the caller tries again at the next such answer.
                 let _ = desk.rebuild(rt, replica);
             }
         }
@@ -238,7 +238,7 @@ impl Caller {
         load: Load,
         replica: u32,
         together: u32,
-        told: &mut Told,
+        told: &mut AnswerCounts,
     ) -> Result<u32, AllocError> {
         let mut drawn = Vec::with_capacity(alloc, together as usize)?;
         for _ in 0..together {
@@ -273,8 +273,8 @@ impl Caller {
         load: Load,
         replica: u32,
         calls: u32,
-    ) -> Result<Told, AllocError> {
-        let mut told = Told::new();
+    ) -> Result<AnswerCounts, AllocError> {
+        let mut told = AnswerCounts::new();
         let mut left = calls;
         for _ in rt.forever() {
             if left == 0 {
@@ -290,17 +290,17 @@ impl Caller {
 
 /// What callers were told.
 #[derive(Clone, Copy)]
-pub(crate) struct Told {
+pub(crate) struct AnswerCounts {
     /// The number of answers of each kind.
     pub(crate) counts: Counts,
     /// The number of calls that were ordered, and of which their replica has no verdict. They are among the others.
     pub(crate) stopped: u64,
 }
 
-impl Told {
+impl AnswerCounts {
     /// Nothing that was told.
-    pub(crate) fn new() -> Told {
-        Told {
+    pub(crate) fn new() -> AnswerCounts {
+        AnswerCounts {
             counts: Counts::new(),
             stopped: 0,
         }
@@ -325,8 +325,8 @@ impl Told {
     }
 
     /// What was told to these and to others.
-    pub(crate) fn plus(self, others: Told) -> Told {
-        Told {
+    pub(crate) fn plus(self, others: AnswerCounts) -> AnswerCounts {
+        AnswerCounts {
             counts: self
                 .counts
                 .checked_add(others.counts)
@@ -358,7 +358,7 @@ fn call_from<J: LogSetting + Ledgers + Send + Sync + 'static, R: Wait>(
     desk: &Desk<J, OpenGate>,
     load: Load,
     place: usize,
-) -> Result<Told, AllocError> {
+) -> Result<AnswerCounts, AllocError> {
     let number = u32::try_from(place).unwrap_or(0);
     let replica = number
         .checked_rem(load.replicas)
@@ -373,7 +373,7 @@ fn call_from<J: LogSetting + Ledgers + Send + Sync + 'static, R: Wait>(
     let share = load.calls.checked_div(load.callers).unwrap_or(0);
     let share = share.saturating_add(u32::from(number < rest));
     match load.work {
-        Work::Start => Ok(Told::new()),
+        Work::Start => Ok(AnswerCounts::new()),
         Work::Soak => Ok(caller.soak(rt, desk, replica, share)),
         Work::Write | Work::Read | Work::Long => caller.call_many(
             rt, alloc, desk, load, replica, share,
@@ -387,14 +387,14 @@ pub(crate) fn call_all<J: LogSetting + Ledgers + Send + Sync + 'static, R: Threa
     alloc: Global,
     desk: &Desk<J, OpenGate>,
     load: Load,
-) -> Result<Told, AllocError> {
+) -> Result<AnswerCounts, AllocError> {
     let asked = thread::map_indices(
         rt,
         alloc,
         load.callers as usize,
         &|place: usize| call_from(rt, alloc, desk, load, place),
     )?;
-    let mut told = Told::new();
+    let mut told = AnswerCounts::new();
     for answered in asked.iter() {
         told = told.plus((*answered)?);
     }
@@ -405,7 +405,7 @@ pub(crate) fn call_all<J: LogSetting + Ledgers + Send + Sync + 'static, R: Threa
 const REBUILDS: u32 = 16;
 
 /// Makes drawn replicas anew while others call, from time to time, where the load is a soak. Returns how often memory
-/// was wanting for that.
+/// was wanting for a rebuild.
 pub(crate) fn rebuild_some<J: LogSetting + Ledgers + Send + Sync + 'static, R: Wait>(
     rt: &R,
     desk: &Desk<J, OpenGate>,
@@ -416,8 +416,8 @@ pub(crate) fn rebuild_some<J: LogSetting + Ledgers + Send + Sync + 'static, R: W
         return wanting;
     }
     let mut generator = Pcg32::new(load.seed, u64::from(load.callers));
-    // More than half of a soak's calls are ordered, so that each of these positions is reached.
-    let step = load.calls / 2 / REBUILDS;
+    // An eighth of a soak's calls and more are ordered, so that each of these positions is reached.
+    let step = load.calls / 8 / REBUILDS;
     for count in 0..REBUILDS {
         let drawn = generator
             .next_word()
@@ -461,8 +461,8 @@ pub(crate) fn rebuild_stopped<J: LogSetting + Ledgers + Send + Sync + 'static, R
 pub(crate) fn open_accounts<J: LogSetting + Ledgers + Send + Sync + 'static, R: Wait>(
     rt: &R,
     desk: &Desk<J, OpenGate>,
-) -> Told {
-    let mut told = Told::new();
+) -> AnswerCounts {
+    let mut told = AnswerCounts::new();
     let mut session = Session::new(desk);
     for account in 0..ACCOUNTS {
         let mut args = [0u8; 16];

@@ -2,8 +2,9 @@
 //! read and that are asked for again. `node_bench soak REPLICAS EXECUTORS CALLS SEED` has drawn replicas made anew
 //! meanwhile, and compares the outcome with the plain replay of the log. The program fails where something isn't as it
 //! should be. `write`, `read`, `long` and `start` in place of `soak` only call, for measurements from outside, and
-//! compare nothing; the words CALLERS, DEPTH and KEYS may follow. Without them there are as many callers as executing threads,
-//! each with one call under way, and 10,000 keys. The time is taken by whoever starts the program (bench/node does).
+//! compare nothing; the words CALLERS, DEPTH and KEYS may follow. Without them there are as many callers as executing
+//! threads, each with one call under way, and 10,000 keys. The time is taken by whoever starts the program (bench/node
+//! does).
 #![tactic(auto)]
 
 ghost use Rattle.std.specs.Prelude.{◌≡◌};
@@ -15,7 +16,7 @@ mod comparing;
 mod procedures;
 
 use crate::calling::{
-    Load, Told, Work, all, call_all, open_accounts, rebuild_some, rebuild_stopped,
+    AnswerCounts, Load, Work, all, call_all, open_accounts, rebuild_some, rebuild_stopped,
 };
 use crate::comparing::{Comparison, compare};
 use crate::procedures::{ACCOUNTS, MONEY, catalogue, long_catalogue, setting};
@@ -37,13 +38,13 @@ use tallies::{Blanks, Counts, Ledgers};
 #[derive(Clone, Copy)]
 struct Outcome {
     /// What the callers were told.
-    told: Told,
+    told: AnswerCounts,
     /// The answers that the node counted.
     totals: Counts,
     agreement: bool,
     /// The number of rebuilds for which memory was wanting.
     wanting: u32,
-    /// The number of replicas that had stopped when all calls were answered, and were made anew then.
+    /// The number of replicas that had stopped when all calls were answered.
     stopped: u32,
     /// The comparison of a soak.
     comparison: Option<Comparison>,
@@ -120,8 +121,8 @@ fn yes(found: bool) -> &'static str {
     if found { "yes" } else { "no" }
 }
 
-/// Prints the number of answers of each kind, and of replicas that stopped, to the writer for faults, since they aren't
-/// the same in each run.
+/// Prints the numbers of answers and of stopped replicas to the writer for faults, since they aren't the same in each
+/// run.
 fn print_counts(rt: &HostRuntime, outcome: &Outcome) -> anyhow::Result<()> {
     let totals = outcome.totals;
     eprintln!(rt;
@@ -143,7 +144,11 @@ fn print_counts(rt: &HostRuntime, outcome: &Outcome) -> anyhow::Result<()> {
 }
 
 /// Prints the result of the plain replay. Tells whether all is as it should be.
-fn print_comparison(rt: &HostRuntime, comparison: Comparison, told: Told) -> anyhow::Result<bool> {
+fn print_comparison(
+    rt: &HostRuntime,
+    comparison: Comparison,
+    told: AnswerCounts,
+) -> anyhow::Result<bool> {
     // A commit that wasn't answered is of a call whose replica had stopped.
     let unanswered = comparison.commits.checked_sub(told.counts.committed);
     let same_commits = unanswered.is_some_and(|it| it <= told.stopped);
@@ -153,7 +158,7 @@ fn print_comparison(rt: &HostRuntime, comparison: Comparison, told: Told) -> any
         yes(comparison.same)
     )?;
     println!(rt;
-        "commits in the log are those that were answered, or of a stopped replica: {}",
+        "as many commits in the log as answers and stopped replicas allow: {}",
         yes(same_commits)
     )?;
     println!(rt;

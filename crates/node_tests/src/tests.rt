@@ -85,9 +85,9 @@ impl Case {
     }
 }
 
-/// The numbers of replicas and of threads that execute at each, the window, and the number of entries that the log
-/// takes.
-type NodeSize = (u32, u32, u32, u32);
+/// The options of a node: the numbers of replicas and of threads that execute at each, the window, and the number of
+/// entries that the log takes.
+type NodeOptions = (u32, u32, u32, u32);
 
 /// The procedures of the node, with their numbers and the number of words that each takes.
 static PROCEDURES: [(u16, &str, usize); 4] = [
@@ -206,10 +206,10 @@ fn check_end(rt: &impl Abort, ending: &Ending, trial: Trial<'_>, end: End) {
 fn try_at_a_node<R: Threads + Wait + Abort + Copy + Send + Sync + 'static>(
     rt: &R,
     alloc: Global,
-    size: NodeSize,
+    given: NodeOptions,
     case: Case,
 ) {
-    let (replicas, executors, window, limit) = size;
+    let (replicas, executors, window, limit) = given;
     let options = Options {
         replicas,
         executors,
@@ -232,8 +232,8 @@ fn try_at_a_node<R: Threads + Wait + Abort + Copy + Send + Sync + 'static>(
 
 const LIMIT: u32 = 1_048_576;
 
-/// Cases of one caller, each at a node of a size.
-static ONE_CALLER: [(NodeSize, Case); 7] = [
+/// Cases of one caller, each at a node with its options.
+static ONE_CALLER: [(NodeOptions, Case); 7] = [
     ((2, 4, 4, LIMIT), Case::OneSession),
     ((2, 4, 4, LIMIT), Case::Numbered),
     ((2, 2, 4, LIMIT), Case::Refusals),
@@ -244,7 +244,7 @@ static ONE_CALLER: [(NodeSize, Case); 7] = [
 ];
 
 /// Cases of several callers.
-static SEVERAL_CALLERS: [(NodeSize, Case); 9] = [
+static SEVERAL_CALLERS: [(NodeOptions, Case); 9] = [
     ((1, 2, 4, LIMIT), Case::Overlap),
     ((1, 1, 4, LIMIT), Case::Overlap),
     ((1, 2, 4, LIMIT), Case::Together),
@@ -258,14 +258,14 @@ static SEVERAL_CALLERS: [(NodeSize, Case); 9] = [
 
 #[test]
 fn one_caller(rt: HostRuntime) {
-    for (size, case) in &ONE_CALLER {
-        try_at_a_node(&rt, rt.alloc(), *size, *case);
+    for (given, case) in &ONE_CALLER {
+        try_at_a_node(&rt, rt.alloc(), *given, *case);
     }
 }
 
 #[test]
 fn several_callers(rt: HostRuntime) {
-    for (size, case) in &SEVERAL_CALLERS {
-        try_at_a_node(&rt, rt.alloc(), *size, *case);
+    for (given, case) in &SEVERAL_CALLERS {
+        try_at_a_node(&rt, rt.alloc(), *given, *case);
     }
 }

@@ -1,6 +1,5 @@
-//! A program that makes calls of one session at the replicas of a small node in turn. It prints what each call was
-//! answered, the call of each entry, and where the replicas end, so that a test can refuse it memory and see what
-//! becomes of calls.
+//! A program that makes calls of one session at the replicas of a small node in turn. The program prints what each call
+//! was answered, which call each entry is, and where the replicas end. A test refuses growths of memory meanwhile.
 #![tactic(auto)]
 
 ghost use Rattle.std.specs.Prelude.{◌≡◌};
@@ -25,7 +24,7 @@ use std::thread::Threads;
 use tallies::{Blanks, Ledgers};
 use test_programs::{TABLES, catalogue_of};
 
-/// Puts 3 at key 5 and gets it twice, so that the last helper needs no memory. The argument isn't used.
+/// Puts 3 at key 5 and gets the row twice, so that the last helper needs no memory. The argument isn't used.
 const PUT_AND_GET_TWICE: &str = "\
     7a0af8ff03000000 b702000005000000 bfa3000000000000 07030000f8ffffff b701000001000000 8500000002000000 \
     b702000005000000 bfa3000000000000 07030000f0ffffff b701000001000000 8500000001000000 \
@@ -52,37 +51,38 @@ impl Gate for CountingGate {
     }
 }
 
-/// The answer to a call.
+/// A call that was answered.
 #[derive(Clone, Copy)]
-struct Heard {
+struct AnsweredCall {
     answer: Answer,
     /// The number of helpers of the call that came to the gate.
     helpers: u32,
 }
 
 /// Makes the calls of a session, one behind the other, at the two replicas in turn. The argument of each is its number,
-/// from 1 on.
+/// from 1 on. Each call waits for its replica first, so that only a stopped replica is behind.
 fn call_in_turn<J: LogSetting + Ledgers + Send + Sync + 'static, R: Wait>(
     rt: &R,
     desk: &Desk<J, CountingGate>,
     passed: &AtomicU32,
-) -> [Heard; CALLS] {
+) -> [AnsweredCall; CALLS] {
     let mut session = Session::new(desk);
-    let nothing = Heard {
+    let nothing = AnsweredCall {
         answer: Answer::NoReplica,
         helpers: 0,
     };
-    let mut heard = [nothing; CALLS];
+    let mut answered = [nothing; CALLS];
     let mut number = 0u8;
-    for call in heard.iter_mut() {
+    for call in answered.iter_mut() {
         number = number.wrapping_add(1);
         let replica = u32::from(number & 1).wrapping_add(1);
+        let _ = desk.wait(rt, replica, session.position());
         passed.store(0, SeqCst);
         let args = [number, 0, 0, 0, 0, 0, 0, 0];
         call.answer = session.call(rt, replica, NUMBER, &args).0;
         call.helpers = passed.load(SeqCst);
     }
-    heard
+    answered
 }
 
 /// Returns the call of each entry of the log, and 0 behind its end.
@@ -100,22 +100,22 @@ fn entries_of<J: LogSetting + Ledgers>(finish: &Finish<J, CountingGate>) -> [u8;
 
 /// The end of a replica.
 #[derive(Clone, Copy)]
-struct End {
+struct ReplicaEnd {
     position: u32,
     commits: u32,
     stopped: bool,
 }
 
 /// Returns the ends of both replicas.
-fn ends_of<J: LogSetting + Ledgers>(finish: &Finish<J, CountingGate>) -> [End; 2] {
-    let nothing = End {
+fn ends_of<J: LogSetting + Ledgers>(finish: &Finish<J, CountingGate>) -> [ReplicaEnd; 2] {
+    let nothing = ReplicaEnd {
         position: 0,
         commits: 0,
         stopped: false,
     };
     let mut ends = [nothing; 2];
     for (end, replica) in ends.iter_mut().zip(&finish.replicas) {
-        *end = End {
+        *end = ReplicaEnd {
             position: replica.position,
             commits: replica.commits,
             stopped: replica.stopped,
@@ -126,10 +126,11 @@ fn ends_of<J: LogSetting + Ledgers>(finish: &Finish<J, CountingGate>) -> [End; 2
 
 /// What became of the calls.
 #[derive(Clone, Copy)]
-struct Outcome {
-    heard: [Heard; CALLS],
+struct SessionReport {
+    answered: [AnsweredCall; CALLS],
+    /// The call of each entry, and 0 behind the log's end.
     entries: [u8; CALLS],
-    ends: [End; 2],
+    ends: [ReplicaEnd; 2],
 }
 
 /// Starts a node, makes the calls, and ends the node. Returns `None` where the node isn't started.
@@ -143,7 +144,7 @@ fn use_node<
     blanks: Blanks,
     catalogue: Catalogue,
     options: Options,
-) -> Option<Outcome>
+) -> Option<SessionReport>
     requires cells { cells ≡ J.groups }
     requires ledgers { J.names ≡ names_by_place blanks }
     requires setting { J.setting ≡ system_setting catalogue options.window }
@@ -156,33 +157,33 @@ fn use_node<
         rt, alloc, cells, blanks, options, catalogue, gate,
     );
     let node = started.ok()?;
-    let heard = call_in_turn(rt, node.desk(), &passed);
+    let answered = call_in_turn(rt, node.desk(), &passed);
     let finish = node.finish(rt);
-    Some(Outcome {
-        heard,
+    Some(SessionReport {
+        answered,
         entries: entries_of(&finish),
         ends: ends_of(&finish),
     })
 }
 
 /// Prints what became of the calls. Tells whether the output took all.
-fn print(rt: &HostRuntime, outcome: &Outcome) -> bool {
+fn print(rt: &HostRuntime, report: &SessionReport) -> bool {
     let mut number = 0u32;
-    for Heard { answer, helpers } in &outcome.heard {
+    for AnsweredCall { answer, helpers } in &report.answered {
         number = number.wrapping_add(1);
         if println!(rt; "call {number} helpers {helpers} {answer:?}").is_err() {
             return false;
         }
     }
     let mut position = 0u32;
-    for call in &outcome.entries {
+    for call in &report.entries {
         position = position.wrapping_add(1);
         if *call != 0 && println!(rt; "entry {position} call {call}").is_err() {
             return false;
         }
     }
     let mut number = 0u32;
-    for end in &outcome.ends {
+    for end in &report.ends {
         number = number.wrapping_add(1);
         if !print_end(rt, number, *end) {
             return false;
@@ -192,7 +193,7 @@ fn print(rt: &HostRuntime, outcome: &Outcome) -> bool {
 }
 
 /// Prints where the replica of a number ended. Tells whether the output took the line.
-fn print_end(rt: &HostRuntime, number: u32, end: End) -> bool {
+fn print_end(rt: &HostRuntime, number: u32, end: ReplicaEnd) -> bool {
     let (position, commits) = (end.position, end.commits);
     let state = if end.stopped { "stopped" } else { "running" };
     println!(rt; "replica {number} position {position} commits {commits} {state}").is_ok()
@@ -218,11 +219,11 @@ fn main(rt: HostRuntime) -> ExitCode {
         window: 4_096,
         limit: MAX_LOG,
     };
-    let outcome = use_node::<Brand, _>(&rt, alloc, cells, Blanks::new(), catalogue, options);
-    let Some(outcome) = outcome else {
+    let report = use_node::<Brand, _>(&rt, alloc, cells, Blanks::new(), catalogue, options);
+    let Some(report) = report else {
         return failure(&rt, "memory is wanting");
     };
-    if print(&rt, &outcome) {
+    if print(&rt, &report) {
         ExitCode::SUCCESS
     } else {
         failure(&rt, "the output failed")

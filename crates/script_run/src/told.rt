@@ -3,11 +3,11 @@
 ghost use Rattle.script_run.specs.Answered.{IsTold, IsUnnamed};
 
 use crate::planned::PlannedCall;
-use locked_replica::{LogSetting, OrderedEntries};
+use locked_replica::LogSetting;
 use log_model::CallRefusal;
 use node::Desk;
 use node_calls::{Answer, OpenGate};
-use order_log::{Fact, Seen};
+use order_log::Seen;
 use std::sync::Wait;
 use tallies::Ledgers;
 

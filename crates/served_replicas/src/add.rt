@@ -4,10 +4,10 @@ ghost use Rattle.std.specs.Prelude.{IfOk, IfErr};
 ghost use Rattle.served_replicas.specs.Added.{IsAskedFor, IsNotAdded, IsAddedAnswer};
 
 use crate::shared::Shared;
-use locked_replica::{LogSetting, OrderedEntries};
+use locked_replica::LogSetting;
 use log_entry::{AddedProcedure, Entry, NamedProgram, check_addition};
 use node_calls::Gate;
-use order_log::{AppendFault, Fact, OrderLog, Seen};
+use order_log::{AppendFault, OrderLog, Seen};
 use program_checks::{AdditionFault, ProgramFault};
 use schema::{MAX_ARGUMENTS, OrNoMemory};
 use std::alloc::Allocator;

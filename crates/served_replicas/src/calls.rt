@@ -84,18 +84,19 @@ impl<J: LogSetting + Ledgers, P: Allocator + Copy> Calls<J, P> {
         }
     }
 
-    /// Tells whether several calls stand behind those of other callers: no thread has taken one of them.
-    fn are_behind_others(&self) -> bool {
+    /// Tells whether several calls were asked for, and no thread has taken one.
+    fn are_several_untaken(&self) -> bool {
         self.places.len() > 1 && self.next.load(SeqCst) == 0
     }
 
-    /// Waits for all replies. Looks for them some times before it sleeps, and fewer times where others come first.
+    /// Waits for all replies. Looks for them some times before it sleeps, and fewer times where several calls stand
+    /// untaken: those of other callers come first then.
     pub fn wait<R: Wait>(&self, rt: &R) {
         for look in 0..LOOKS {
             if self.open.load(SeqCst) == 0 {
                 return;
             }
-            if look >= SPINS && self.are_behind_others() {
+            if look >= SPINS && self.are_several_untaken() {
                 break;
             }
             pause(look);

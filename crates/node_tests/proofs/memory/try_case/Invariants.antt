@@ -1,9 +1,10 @@
 use Rattle.tallies.specs.Tallies.{names_by_place}
+use Rattle.catalogue.specs.Catalogue.{system_setting}
 use Rattle.node_tests.proofs.memory.try_case.Given as goal
 
 -- the node whose log's cells and ledgers were just made, of this catalogue and window
 abbrev pub ghosts-try_two-J-LogSetting : goal.ghosts-try_two-J-LogSetting
-ghosts-try_two-J-LogSetting g a = record { setting = record { tables = a.start.catalogue.tables; catalogue = a.start.catalogue.procedures; window = a.start.window } }
+ghosts-try_two-J-LogSetting g a = record { setting = system_setting a.start.catalogue a.start.window }
 
 abbrev pub ghosts-try_two-J-LogIdentity : goal.ghosts-try_two-J-LogIdentity
 ghosts-try_two-J-LogIdentity g a = record { groups = a.cells }
