@@ -19,17 +19,23 @@ sys.path[:0] = [f"{ROOT}/gate", f"{ROOT}/tests"]
 from tally import Tally
 
 LIMIT = 60  # seconds that a run may take
+# add KEY AMOUNT adds to a row and replies with the sum; put KEY ROW puts a row
 ADD = (
     "79160000000000007917080000000000b701000001000000bf62000000000000bfa300000000000007030000f8ffffff850000000100000079a8f8ff00000000"
     "0f780000000000007b8af8ff00000000b701000001000000bf62000000000000bfa300000000000007030000f8ffffff8500000002000000bf80000000000000"
     "9500000000000000")
-PUT = "791200000000000079140800000000007b4af8ff00000000bfa300000000000007030000f8ffffffb7010000010000008500000002000000" + "9500000000000000"
+PUT = "791200000000000079140800000000007b4af8ff00000000bfa300000000000007030000f8ffffffb70100000100000085000000020000009500000000000000"
 KINDS = ["committed", "read", "cancelled", "conflict", "stale", "repeat"]  # as the `total` line has them; `other` stands behind
+OTHERS = ["no memory", "full", "stopped", "refused"]
 ENTRY_KINDS = ["committed", "conflict", "repeat", "stopped"]  # whose first number is the entry's position
-SOAKED = 20_000  # calls of a soak in the gate
+SOAKED = 20_000  # calls of a soak in the gate, at least 10,000: fewer have their growths at the start
 
 Call = collections.namedtuple("Call", "kind numbers")
 Replica = collections.namedtuple("Replica", "position commits state")
+
+
+def stopped_in(replicas):
+    return [it for it in replicas if it.state == "stopped"]
 
 
 # ---- what `dsmdb run` prints
@@ -41,7 +47,7 @@ class Printed:
     def __init__(self, output):
         self.calls, self.replicas, self.totals, self.agreement = [], [], {}, None
         for line in output.splitlines():
-            if it := re.fullmatch(r"call (\d+) ([a-z]+(?: memory)?)((?: \w+)*)", line):
+            if it := re.fullmatch(rf"call (\d+) ({'|'.join(KINDS + OTHERS)})((?: \w+)*)", line):
                 self.calls.append(Call(it[2], [int(word) for word in it[3].split() if word.isdecimal()]))
                 if int(it[1]) != len(self.calls):
                     raise ValueError(f"{line} is call {len(self.calls)}")
@@ -55,28 +61,36 @@ class Printed:
             else:
                 raise ValueError(f"{line!r} is no line of a run")
 
-    def faults(self):
-        """Says where answers, totals and ends don't agree with each other."""
+    def faults(self, calls, replicas):
+        """Says where answers, totals and ends don't agree with each other, and where there aren't as many as there should be."""
+        if (len(self.calls), len(self.replicas)) != (calls, replicas):
+            yield f"{len(self.calls)} calls and {len(self.replicas)} replicas"
         counts = collections.Counter(it.kind for it in self.calls)
-        told = {**{it: counts[it] for it in KINDS}, "other": sum(counts.values()) - sum(counts[it] for it in KINDS)}
-        if self.totals != told:
-            yield f"totals {self.totals} of answers {told}"
+        if self.totals != {**{it: counts[it] for it in KINDS}, "other": sum(counts[it] for it in OTHERS)}:
+            yield f"totals {self.totals} of answers {dict(counts)}"
         if not self.agreement:
             yield "no agreement"
+        yield from self.faults_of_entries(counts)
+
+    def faults_of_entries(self, counts):
+        """Says where the positions that calls and replicas name aren't those of one log."""
         places = [it.numbers[0] for it in self.calls if it.kind in ENTRY_KINDS]
-        end = max((it.position for it in self.replicas if it.state == "running"), default=None)
+        running, stopped = [it for it in self.replicas if it.state == "running"], stopped_in(self.replicas)
         if len({*places}) < len(places):
             yield "two calls are one entry"
-        if end is not None and not len(places) <= end <= len(places) + counts["stale"]:
-            yield f"{end} entries of {len(places)} calls that say that they are ordered"
-        for replica in self.replicas:
-            if replica.state == "running":
-                if replica.position != end:
-                    yield f"running replicas end at {replica.position} and {end}"
-                if not counts["committed"] <= replica.commits <= counts["committed"] + counts["stopped"]:
-                    yield f"{replica.commits} commits, {counts['committed']} of them answered"
-            elif end is not None and replica.position >= end:
-                yield f"a replica stopped at {replica.position} of {end}"
+        for it in self.calls:
+            if it.kind == "stopped" and not any(replica.position < it.numbers[0] for replica in stopped):
+                yield f"{it}, and no replica stopped before it"
+        for replica in running:
+            # of a call that is answered `stale` the answer doesn't say whether it is ordered
+            if not len(places) <= replica.position <= len(places) + counts["stale"] or max(places, default=0) > replica.position:
+                yield f"a running replica ends at {replica.position}, with calls at {sorted(places)}"
+            if not counts["committed"] <= replica.commits <= counts["committed"] + counts["stopped"]:
+                yield f"{replica.commits} commits, {counts['committed']} of them answered"
+        if len({(it.position, it.commits) for it in running}) > 1:
+            yield f"running replicas end otherwise: {running}"
+        if any(it.position >= replica.position for it in stopped for replica in running):
+            yield f"a replica stopped at the end: {self.replicas}"
 
 
 def ran(words, room, limit=LIMIT, more=None):
@@ -135,7 +149,9 @@ def run(program, tally):
         for wanted, calls, options in HOUSES:
             found = ran([program, "run", script(room, *calls), *options], room)
             printed = Printed(found.stdout)
-            why = [*printed.faults(), *([] if wanted(printed, found.stdout) else [found.stdout[-600:]]), *found.stderr.splitlines()]
+            why = [*printed.faults(len(calls[2]), calls[1]), *found.stderr.splitlines()]
+            if not wanted(printed, found.stdout):
+                why.append(found.stdout[-600:])
             tally.tell(f"full house, {wanted.__doc__.split(':')[0]}", not found.returncode and not why, "; ".join(why))
 
 
@@ -153,10 +169,13 @@ def refusing(room):
 
 
 def refused(library, words, room, limit=LIMIT, **which):
-    """Runs a program to which growths are refused. Returns what ran, and how many growths there were and were refused."""
+    """Runs a program to which growths are refused. Returns what ran, and how many growths there were and were refused: none
+    where the program didn't come to its end."""
     told = f"{room}/told"
     more = {"LD_PRELOAD": library, "REFUSE_TOLD": told, **{f"REFUSE_{name}": str(it) for name, it in which.items()}}
     found = ran(words, room, limit, more)
+    if not os.path.exists(told):
+        return found, 0, 0
     with open(told) as file:
         growths, count = map(int, file.read().split())
     os.remove(told)
@@ -164,28 +183,50 @@ def refused(library, words, room, limit=LIMIT, **which):
 
 
 def each_refused(library, words, room):
-    """Refuses each growth in turn, until there are no more. Yields what ran, for each."""
+    """Refuses each growth in turn, until there are no more. Yields the growth's number and what ran."""
     number, beyond = 0, 0
     while beyond < 3:  # since threads need more growths at one time than at another
         number += 1
-        found, _, count = refused(library, words, room, FROM=number)
-        beyond = 0 if count else beyond + 1
-        if count:
+        found, growths, count = refused(library, words, room, FROM=number)
+        beyond = 0 if count or not growths else beyond + 1
+        if count or not growths:
             yield number, found
+        if not growths:  # a program that was killed is told of once
+            return
 
 
-# How a run that found no memory ends, before any call is made.
+def told_of_each(name, runs, faults, events, tally):
+    """Counts one test: what is at fault in any of these runs, by a function, and which of the events never came."""
+    why, met, number = [], collections.Counter(), 0
+    for number, found in runs:
+        try:
+            why += [f"growth {number}: {it}" for it in faults(found, met)]
+        except ValueError as fault:
+            why.append(f"growth {number}: {fault}")
+    why += [f"never {it}" for it in events if not met[it]]
+    tally.tell(f"each of {number} growths of {name} refused: {dict(met)}", not why, "; ".join(why[:5]))
+
+
+# How a run ends that found no memory, with nothing printed.
 WITHOUT_MEMORY = re.compile(r"(line \d+: L9|(dsmdb|error): (N4: )?out of memory|dsmdb: N5: a thread wasn't started)\n")
+CALLS = [(1 + it % 2, "add", it % 3, 1) for it in range(6)]
 
 
-def faults_of_run(found):
-    """Says what is at fault in a run to which one growth was refused."""
-    if found.returncode == 0:
-        yield from Printed(found.stdout).faults()
-        if found.stderr:
-            yield found.stderr
-    elif (found.returncode, found.stdout) != (3, "") or not WITHOUT_MEMORY.fullmatch(found.stderr):
+def faults_of_run(found, met):
+    """Says what is at fault in a run to which one growth was refused, and notes what came of that."""
+    if found.returncode == 3 and not found.stdout and WITHOUT_MEMORY.fullmatch(found.stderr):
+        met["nothing printed"] += 1
+        return
+    if found.returncode or found.stderr:
         yield f"status {found.returncode}: {found.stdout}{found.stderr}"
+        return
+    printed = Printed(found.stdout)
+    yield from printed.faults(len(CALLS), 2)
+    kinds, stopped = [it.kind for it in printed.calls], stopped_in(printed.replicas)
+    if kinds.count("no memory") + len(stopped) > 1 or {"full", "refused"} & {*kinds}:
+        yield f"more than one growth explains: {found.stdout}"
+    met["no memory"] += "no memory" in kinds
+    met["stopped"] += bool(stopped)
 
 
 class Session:
@@ -202,73 +243,66 @@ class Session:
                 self.replicas.append(Replica(int(it[2]), int(it[3]), it[4]))
             else:
                 raise ValueError(f"{line!r} is no line of a session")
+        if (len(self.calls), len(self.replicas)) != (8, 2):
+            raise ValueError(f"{len(self.calls)} calls and {len(self.replicas)} replicas")
 
     def faults(self):
-        """Says where answers, entries and ends don't agree. Call 1 is made at replica 2, the next at replica 1, and so on."""
-        ordered = {}
-        for number, (_, kind, position) in enumerate(self.calls, 1):
-            replica = self.replicas[number % 2]
-            if kind in ("Committed", "Stopped"):
-                ordered[position] = number
-            elif kind not in ("NoMemory", "Behind"):
-                yield f"call {number} is {kind}"
-            if kind == "Committed" and replica.position < position:
-                yield f"call {number} committed at {position}, and its replica ended at {replica.position}"
-            if kind in ("Stopped", "Behind") and replica.state == "running":
-                yield f"call {number} is {kind}, and its replica runs"
-            if kind == "Stopped" and position <= replica.position:
-                yield f"call {number} is before the end of its stopped replica"
-        if [ordered.get(it) for it in range(1, len(ordered) + 1)] != self.entries:
+        """Says where answers, entries and ends don't agree."""
+        for number, call in enumerate(self.calls, 1):
+            # call 1 is made at replica 2, the next at replica 1, and so on
+            yield from (f"call {number}: {it}" for it in faults_of_call(*call, self.replicas[number % 2]))
+        ordered = sorted((position, number) for number, (_, kind, position) in enumerate(self.calls, 1) if kind in ("Committed", "Stopped"))
+        if ordered != [*enumerate(self.entries, 1)]:
             yield f"entries {self.entries} of calls that were ordered {ordered}"
         for replica in self.replicas:
-            whole = replica.position == len(self.entries)
-            if replica.commits != replica.position or whole != (replica.state == "running"):
+            if replica.commits != replica.position or (replica.position == len(self.entries)) != (replica.state == "running"):
                 yield f"{replica} of {len(self.entries)} entries"
-
-    def events(self):
-        """What came of the refused growth."""
-        yield from ("wanting before its first helper" for helpers, kind, _ in self.calls if (kind, helpers) == ("NoMemory", 0))
-        yield from ("wanting after its last helper" for helpers, kind, _ in self.calls if (kind, helpers) == ("NoMemory", 3))
-        yield from ("stopped" for it in self.replicas if it.state == "stopped")
-        yield from ("all committed" for it in [self.calls] if all(kind == "Committed" for _, kind, _ in it))
+        if sum(kind == "NoMemory" for _, kind, _ in self.calls) + len(stopped_in(self.replicas)) > 1:
+            yield "more than one growth explains"
 
 
-EVENTS = ["not started", "wanting before its first helper", "wanting after its last helper", "stopped"]
+def faults_of_call(helpers, kind, position, replica):
+    """Says what is at fault in the answer to a call at a replica that has ended so."""
+    stopped = replica.state == "stopped"
+    well = {
+        "Committed": helpers == 3 and 0 < position <= replica.position,
+        "Stopped": helpers == 3 and stopped and position > replica.position,
+        "Behind": helpers == 0 and stopped,
+        "NoMemory": helpers in (0, 1, 2, 3),
+    }
+    if not well.get(kind, False):
+        yield f"{kind} {position} with {helpers} helpers at {replica}"
 
 
-def try_session(library, room, tally):
-    """Refuses each growth of a node with one session."""
-    program, events, why, number = f"{ROOT}/crates/scarce_node/out/scarce_node", collections.Counter(), [], 0
-    for number, found in each_refused(library, [program], room):
-        if (found.returncode, found.stdout, found.stderr) == (1, "", "scarce_node: memory is wanting\n"):
-            events["not started"] += 1
-            continue
-        if found.returncode or found.stderr:
-            why.append(f"growth {number}: status {found.returncode}: {found.stderr}")
-            continue
-        session = Session(found.stdout)
-        events.update({*session.events()})
-        why += [f"growth {number}: {it}" for it in session.faults()]
-    why += [f"never {it}" for it in EVENTS if not events[it]]
-    tally.tell(f"each of {number} growths of a node refused: {dict(events)}", not why, "; ".join(why[:5]))
+def faults_of_session(found, met):
+    """Says what is at fault in a session of which one growth was refused, and notes what came of that."""
+    if (found.returncode, found.stdout, found.stderr) == (1, "", "scarce_node: memory is wanting\n"):
+        met["not started"] += 1
+        return
+    if found.returncode or found.stderr:
+        yield f"status {found.returncode}: {found.stdout}{found.stderr}"
+        return
+    session = Session(found.stdout)
+    yield from session.faults()
+    met["wanting before the first helper"] += any((kind, helpers) == ("NoMemory", 0) for helpers, kind, _ in session.calls)
+    met["wanting after the last helper"] += any((kind, helpers) == ("NoMemory", 3) for helpers, kind, _ in session.calls)
+    met["stopped"] += bool(stopped_in(session.replicas))
 
 
-def try_run(library, program, room, tally):
-    """Refuses each growth of `dsmdb run`."""
-    words, why, events, number = [program, "run", script(room, 4, 2, [(1 + it % 2, "add", it % 3, 1) for it in range(6)])], [], collections.Counter(), 0
-    for number, found in each_refused(library, words, room):
-        why += [f"growth {number}: {it}" for it in faults_of_run(found)]
-        events.update({"no calls made": found.returncode == 3, "no memory": " no memory\n" in found.stdout, "stopped": " stopped\n" in found.stdout})
-    why += [f"never {it}" for it, count in events.items() if not count]
-    tally.tell(f"each of {number} growths of dsmdb run refused: {dict(events)}", not why, "; ".join(why[:5]))
+EVENTS = ["not started", "wanting before the first helper", "wanting after the last helper", "stopped"]
 
 
 def try_soak(library, room, tally, calls, seed):
-    """Refuses drawn growths while 128 callers call at eight replicas of 16 threads, and drawn replicas are made anew."""
+    """Refuses drawn growths while 128 callers call at eight replicas of 16 threads, and drawn replicas are made anew. First
+    the same calls are made with no growth refused: no answer and no rebuild then wants memory."""
     words, limit = [f"{ROOT}/crates/node_bench/out/node_bench", "soak", "8", "16", str(calls), str(seed)], LIMIT + calls // 100
-    _, growths, _ = refused(library, words, room, limit, FROM=0)
-    # a third of all growths come before the calls end and the comparison begins
-    found, _, count = refused(library, words, room, limit, FROM=growths // 20, UNTIL=growths // 3, ONE_IN=max(growths // 200, 1), SEED=seed)
+    ample, growths, _ = refused(library, words, room, limit, FROM=0)
+    quiet = "other 0, of which stopped 0\nrebuilds without memory 0, replicas stopped at the end 0\n"
+    well = ample.returncode == 0 and ample.stderr.endswith(quiet)
+    tally.tell(f"soak of {calls} calls (seed {seed})", well, f"{ample.returncode}: {ample.stdout}{ample.stderr}"[-800:])
+    # the calls make more than a third of all growths, and the comparison behind them the rest
+    which = {"FROM": growths // 20, "UNTIL": growths // 3, "ONE_IN": max(growths // 200, 1), "SEED": seed}
+    found, _, count = refused(library, words, room, limit, **which)
     well = found.returncode == 0 and count > 0
     tally.tell(f"soak of {calls} calls, {count} growths refused (seed {seed})", well, f"{found.returncode}: {found.stdout}"[-800:])
     print("".join(f"  {line}\n" for line in found.stderr.splitlines()), end="", flush=True)
@@ -281,17 +315,23 @@ def run_long(program, tally):
         if library is None:
             tally.leave_out("refused growths on threads", "apt-get install gcc")
             return
-        try_session(library, room, tally)
-        try_run(library, program, room, tally)
+        session = each_refused(library, [f"{ROOT}/crates/scarce_node/out/scarce_node"], room)
+        told_of_each("a node with one session", session, faults_of_session, EVENTS, tally)
+        runs = each_refused(library, [program, "run", script(room, 4, 2, CALLS)], room)
+        told_of_each("dsmdb run", runs, faults_of_run, ["nothing printed", "no memory", "stopped"], tally)
         try_soak(library, room, tally, SOAKED, random.randrange(1 << 30))
 
 
 def main():
-    tally = Tally()
-    numbers = [int(it) for it in sys.argv[1:3]]
+    tally, numbers = Tally(), [int(it) for it in sys.argv[1:3]]
+    calls, seed = [*numbers, 200_000, random.randrange(1 << 30)][:2] if len(numbers) != 1 else [*numbers, random.randrange(1 << 30)]
     with tempfile.TemporaryDirectory(prefix="threads-") as room:
-        try_soak(refusing(room), room, tally, *numbers[:1] or [200_000], *numbers[1:] or [random.randrange(1 << 30)])
-    return 0 if tally.end() else 1
+        library = refusing(room)
+        if library is None:
+            tally.leave_out("refused growths on threads", "apt-get install gcc")
+        else:
+            try_soak(library, room, tally, calls, seed)
+    return 0 if tally.end(complete=True) else 1
 
 
 if __name__ == "__main__":

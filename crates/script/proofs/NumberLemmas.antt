@@ -33,9 +33,9 @@ number_of-none least most field none =
     let n = digits_value 10 field in
     dropped (bytes_eq field (decimal (digits_value 10 field)) && (nat_le least (digits_value 10 field) && nat_le (digits_value 10 field) most)) (digits_value 10 field)
     (λ t.
-        let parts = and_parts (bytes_eq field (decimal (digits_value 10 field))) _ t in
-        let within = and_parts (nat_le least (digits_value 10 field)) (nat_le (digits_value 10 field) most) parts.1 in
-        none (digits_value 10 field) ((bytes_eq-Decides field (decimal (digits_value 10 field))).0 parts.0) (leb-true _ _ within.0) (leb-true _ _ within.1))
+    let parts = and_parts (bytes_eq field (decimal (digits_value 10 field))) _ t in
+    let within = and_parts (nat_le least (digits_value 10 field)) (nat_le (digits_value 10 field) most) parts.1 in
+    none (digits_value 10 field) ((bytes_eq-Decides field (decimal (digits_value 10 field))).0 parts.0) (leb-true _ _ within.0) (leb-true _ _ within.1))
 
 -- what is not parsed is no number
 pub number_of-unparsed : {E : Type 0} (least most : ℕ) (field : List ℕ) (r : Result ℕ E) → most < 2 ^ 64 → ParsesUnsigned 64 10 field r → ((n : ℕ) → r ≡ Ok n → field ≡ decimal n → least ≤ n → n ≤ most → ⊥) → number_of least most field ≡ None
