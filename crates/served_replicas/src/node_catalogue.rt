@@ -1,6 +1,7 @@
 //! The catalogue of a node.
 
 ghost use Rattle.std.specs.Prelude.{◌≡◌};
+ghost use Rattle.catalogue.specs.Catalogue.{system_setting};
 
 use catalogue::Catalogue;
 use locked_replica::LogSetting;
