@@ -3,7 +3,7 @@ use Rattle.site_service.proofs.ScanLemmas.{scan_begins, scan_ends, scan_goes, sc
 use Rattle.site_service.proofs.scans.append_scanned.Goals as goal
 
 pub loop-count-init : goal.loop-count-init
-loop-count-init g c = λ rows answers. scan_begins g.S.ByteSink.appends c.args.sink.now c.args.scan rows c.new.result c.new.ensures (g.met.S.ByteSink.nothing c.args.sink.now)
+loop-count-init g c = λ rows answers. scan_begins g.S.ByteSink.appends c.args.sink.now c.args.scan rows c.new-left.result c.new-left.ensures (g.met.S.ByteSink.nothing c.args.sink.now)
 
 pub loop-count-preserved : goal.loop-count-preserved
 loop-count-preserved g c = λ rows answers.
