@@ -28,7 +28,9 @@ PUT = "791200000000000079140800000000007b4af8ff00000000bfa300000000000007030000f
 KINDS = ["committed", "read", "cancelled", "conflict", "stale", "repeat"]  # as the `total` line has them; `other` stands behind
 OTHERS = ["no memory", "full", "stopped", "refused"]
 ENTRY_KINDS = ["committed", "conflict", "repeat", "stopped"]  # whose first number is the entry's position
-SOAKED = 20_000  # calls of a soak in the gate, at least 10,000: fewer have their growths at the start
+SOAKED = 20_000  # calls of a soak in the gate
+BEGUN = 4_000  # growths, by which a node of eight replicas of 16 threads has its accounts and its callers
+GROWN = 12  # growths of each call of a soak there, at least
 
 Call = collections.namedtuple("Call", "kind numbers")
 Replica = collections.namedtuple("Replica", "position commits state")
@@ -296,13 +298,12 @@ def try_soak(library, room, tally, calls, seed):
     """Refuses drawn growths while 128 callers call at eight replicas of 16 threads, and drawn replicas are made anew. First
     the same calls are made with no growth refused: no answer and no rebuild then wants memory."""
     words, limit = [f"{ROOT}/crates/node_bench/out/node_bench", "soak", "8", "16", str(calls), str(seed)], LIMIT + calls // 100
-    ample, growths, _ = refused(library, words, room, limit, FROM=0)
+    ample, _, _ = refused(library, words, room, limit, FROM=0)
     quiet = "other 0, of which stopped 0\nrebuilds without memory 0, replicas stopped at the end 0\n"
     well = ample.returncode == 0 and ample.stderr.endswith(quiet)
     tally.tell(f"soak of {calls} calls (seed {seed})", well, f"{ample.returncode}: {ample.stdout}{ample.stderr}"[-800:])
-    # the calls make more than a third of all growths, and the comparison behind them the rest
-    which = {"FROM": growths // 20, "UNTIL": growths // 3, "ONE_IN": max(growths // 200, 1), "SEED": seed}
-    found, _, count = refused(library, words, room, limit, **which)
+    # some 200 are refused, none of them behind the calls, where the comparison has to find memory
+    found, _, count = refused(library, words, room, limit, FROM=BEGUN, UNTIL=GROWN * calls, ONE_IN=max(GROWN * calls // 200, 1), SEED=seed)
     well = found.returncode == 0 and count > 0
     tally.tell(f"soak of {calls} calls, {count} growths refused (seed {seed})", well, f"{found.returncode}: {found.stdout}"[-800:])
     print("".join(f"  {line}\n" for line in found.stderr.splitlines()), end="", flush=True)
