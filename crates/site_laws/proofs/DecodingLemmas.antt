@@ -136,20 +136,27 @@ half_below f high fit = by_tests (unused_are_zero (fields_used false false false
 
 -- ---- all slots
 
+-- an instruction that waits for its second half loads 64 bits
+pub by_first_half : (P : Instruction → Type 0) → ((dst : Register) (low : ℕ) → low < 2 ^ 32 → P (instruction.LoadWide dst low)) → (first : Instruction) → IsFirstHalf first → P first
+by_first_half P wide (instruction.LoadWide dst low) half = wide dst low half
+by_first_half P wide (instruction.Load _ _ _ _) half = absurd half
+by_first_half P wide (instruction.StoreImmediate _ _ _ _) half = absurd half
+by_first_half P wide (instruction.StoreRegister _ _ _ _) half = absurd half
+by_first_half P wide (instruction.Arithmetic _ _ _ _) half = absurd half
+by_first_half P wide (instruction.Negate _ _) half = absurd half
+by_first_half P wide (instruction.MoveSignExtended _ _ _) half = absurd half
+by_first_half P wide (instruction.End _ _ _) half = absurd half
+by_first_half P wide (instruction.Jump _) half = absurd half
+by_first_half P wide (instruction.LongJump _) half = absurd half
+by_first_half P wide (instruction.Branch _ _ _ _ _) half = absurd half
+by_first_half P wide (instruction.Call _) half = absurd half
+by_first_half P wide instruction.Exit half = absurd half
+
 completed_in_range : (first : Instruction) (high : ℕ) → IsFirstHalf first → high < 2 ^ 32 → IsInRange (completed_load first high)
-completed_in_range (instruction.LoadWide dst low) high half below = omega arith
-completed_in_range (instruction.Load _ _ _ _) high half below = absurd half
-completed_in_range (instruction.StoreImmediate _ _ _ _) high half below = absurd half
-completed_in_range (instruction.StoreRegister _ _ _ _) high half below = absurd half
-completed_in_range (instruction.Arithmetic _ _ _ _) high half below = absurd half
-completed_in_range (instruction.Negate _ _) high half below = absurd half
-completed_in_range (instruction.MoveSignExtended _ _ _) high half below = absurd half
-completed_in_range (instruction.End _ _ _) high half below = absurd half
-completed_in_range (instruction.Jump _) high half below = absurd half
-completed_in_range (instruction.LongJump _) high half below = absurd half
-completed_in_range (instruction.Branch _ _ _ _ _) high half below = absurd half
-completed_in_range (instruction.Call _) high half below = absurd half
-completed_in_range instruction.Exit high half below = absurd half
+completed_in_range first high half below = by_first_half (λ (i : Instruction). IsInRange (completed_load i high)) wide first half
+  where
+    wide : (dst : Register) (low : ℕ) → low < 2 ^ 32 → IsInRange (completed_load (instruction.LoadWide dst low) high)
+    wide dst low small = omega arith
 
 pub with_front_ok : (front : Program) (r : Result Program DecodeFault) (p : Program) → with_front front r ≡ Ok p → (q : Program) × (r ≡ Ok q) × (p ≡ front ++ q)
 with_front_ok front (Ok q) p e = (q, refl, cc)

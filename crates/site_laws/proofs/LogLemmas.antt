@@ -212,6 +212,15 @@ get_first (x ∷ xs) ys zero lt = refl
 get_first (x ∷ xs) ys (suc k) lt = get_first xs ys k (omega arith)
 
 -- entries that go on from those behind a byte string, and one byte string more
+pub items_go_on : (s : SiteSetting) (xs ys later : List Entry) (a b : List ℕ) → ys ≡ with_bytes s xs a ++ later → items_of (with_bytes s ys b) ≡ items_of (with_bytes s xs a) ++ (items_of later ++ item_of (next_entry s ys b) ∷ [])
+items_go_on s xs ys later a b goes =
+    let item = item_of (next_entry s ys b) in
+    items_snoc ys (next_entry s ys b)
+    ∙ ap (λ (zs : List Entry). items_of zs ++ item ∷ []) goes
+    ∙ ap (λ (l : Log). l ++ item ∷ []) (map-append item_of (with_bytes s xs a) later)
+    ∙ append_assoc (items_of (with_bytes s xs a)) (items_of later) (item ∷ [])
+
+-- of two such calls with one request only one commits
 pub once : (s : SiteSetting) (xs ys later : List Entry) (a b : List ℕ) (x y : ExecutedCall) (reply other : ℕ) → HaveVerdicts → VerdictsGrow → CommitOnce → ys ≡ with_bytes s xs a ++ later → IsLog (items_of (with_bytes s ys b))
     → standing s (items_of xs) a ≡ StandsAs (CallEntry x) → outcome_behind s xs a ≡ outcome.Committed reply → standing s (items_of ys) b ≡ StandsAs (CallEntry y) → IsTrue (same_request x.call.request y.call.request) → outcome_behind s ys b ≡ outcome.Committed other → ⊥
 once s xs ys later a b x y reply other verdicts grow law goes log is told stands same again =
@@ -219,11 +228,7 @@ once s xs ys later a b x y reply other verdicts grow law goes log is told stands
     let first = items_of (with_bytes s xs a) in
     let whole = items_of (with_bytes s ys b) in
     let rest = items_of later ++ item_of (next_entry s ys b) ∷ [] in
-    let split : whole ≡ first ++ rest =
-    items_snoc ys (next_entry s ys b)
-    ∙ ap (λ (zs : List Entry). items_of zs ++ item_of (next_entry s ys b) ∷ []) goes
-    ∙ ap (λ (l : Log). l ++ item_of (next_entry s ys b) ∷ []) (map-append item_of (with_bytes s xs a) later)
-    ∙ append_assoc first (items_of later) (item_of (next_entry s ys b) ∷ []) in
+    let split : whole ≡ first ++ rest = items_go_on s xs ys later a b goes in
     let one : length (with_bytes s xs a) ≡ length xs + 1 = length-append xs (next_entry s xs a ∷ []) in
     let long : length first ≡ length xs + 1 = length-map (with_bytes s xs a) item_of ∙ one in
     let more : length ys ≡ length (with_bytes s xs a) + length later = ap length goes ∙ length-append (with_bytes s xs a) later in

@@ -2,7 +2,7 @@
 use Rattle.std.proofs.Common.{◌≡◌, ℕ, zero, suc, ◌+◌, ◌-◌, ◌≤◌, ◌<◌, Bool, true, false, cond, ◌&&◌, is_some, List, [], ◌∷◌, ◌++◌, length, slice_get, Option, Some, None, option_map, refl, sym, ap, ◌∙◌, arith, append_assoc}
 use Rattle.std.specs.Prelude.{IsSome}
 use Rattle.std.specs.FinMap.{empty, get, get-empty}
-use Rattle.std.proofs.lemmas.List.{length-append, length-map, map-append}
+use Rattle.std.proofs.lemmas.List.{length-append, length-map}
 use Rattle.schema.specs.Rows.{Key, Writes, key_cmp}
 use Rattle.bpf_semantics.specs.Run.{Run}
 use Rattle.log_model.specs.declared.request.RequestId.{RequestId}
@@ -20,7 +20,7 @@ use Rattle.site_model.specs.Standing.{SiteSetting, Standing, StandsAs, IsDecided
 use Rattle.site_model.specs.Order.{call_of_none, entry_standing, next_entry, outcome_behind, outcome_by, reply_in, with_bytes}
 use Rattle.site_model.proofs.StandingLemmas.{runs_none}
 use Rattle.site_laws.specs.Requests.{with_reply}
-use Rattle.site_laws.proofs.LogLemmas.{HaveVerdicts, at_last, item_there, items_snoc, last_verdict}
+use Rattle.site_laws.proofs.LogLemmas.{HaveVerdicts, at_last, item_there, items_go_on, items_snoc, last_verdict}
 use Rattle.site_laws.proofs.RefusedLemmas.{ConflictMeans}
 
 -- ---- requests
@@ -186,11 +186,7 @@ never_in_conflict s entries later all nothing bytes why verdicts means goes is_l
     let place : wrote.before ≡ length entries = omega (arith, wrote.place) in
     let item = item_of (next_entry s entries nothing) in
     let rest = items_of later ++ item_of (next_entry s all bytes) ∷ [] in
-    let split : whole ≡ first ++ rest =
-    items_snoc all (next_entry s all bytes)
-    ∙ ap (λ (zs : List Entry). items_of zs ++ item_of (next_entry s all bytes) ∷ []) goes
-    ∙ ap (λ (l : Log). l ++ item_of (next_entry s all bytes) ∷ []) (map-append item_of (with_bytes s entries nothing) later)
-    ∙ append_assoc first (items_of later) (item_of (next_entry s all bytes) ∷ []) in
+    let split : whole ≡ first ++ rest = items_go_on s entries all later nothing bytes goes in
     let on : whole ≡ log ++ (item ∷ rest) = split ∙ ap (λ (l : Log). l ++ rest) (items_snoc entries (next_entry s entries nothing)) ∙ append_assoc log (item ∷ []) rest in
     let inside : length entries < length first = omega (arith, length-map (with_bytes s entries nothing) item_of, length-append entries (next_entry s entries nothing ∷ [])) in
     let none = call_of_none (procedures_after w log (length log)) (length log) None in

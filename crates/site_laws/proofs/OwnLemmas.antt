@@ -1,5 +1,5 @@
 -- What a site gave to be ordered stands, or is decided.
-use Rattle.std.proofs.Common.{◌≡◌, ℕ, ◌+◌, ◌==◌, ◌≤◌, Bool, true, false, not, ◌&&◌, nat_le, cond, is_some, List, ◌++◌, length, Option, Some, None, Result, Ok, Err, refl, sym, ap, ◌∙◌, arith}
+use Rattle.std.proofs.Common.{◌≡◌, ℕ, ◌+◌, ◌==◌, ◌≤◌, Bool, true, false, not, ◌&&◌, nat_le, cond, is_some, List, ◌++◌, length, Option, Some, None, refl, sym, ap, ◌∙◌, arith}
 use Rattle.std.specs.FinMap.{len}
 use Rattle.std.specs.Str.{bytes_eq}
 use Rattle.std.proofs.lemmas.Bool.Decides.{nat_tests}
@@ -27,14 +27,12 @@ use Rattle.site_model.specs.declared.cause.NothingCause.{NothingCause}
 use Rattle.site_model.specs.declared.cause.NothingCause.TheVariants as cause
 use Rattle.site_model.specs.declared.outcome.EntryOutcome.{EntryOutcome}
 use Rattle.site_model.specs.declared.outcome.EntryOutcome.TheVariants as outcome
+use Rattle.site_model.specs.declared.answer.CallAnswer.{CallAnswer}
 use Rattle.site_model.specs.declared.answer.CallAnswer.TheVariants as call
-use Rattle.log_model.specs.declared.refusal.CallRefusal.{CallRefusal}
-use Rattle.log_model.specs.Admission.{admission}
-use Rattle.log_model.proofs.AdmissionLemmas.{is_admitted}
 use Rattle.site_model.specs.Standing.{SiteSetting, Standing, StandsAs, IsDecided, IsNothing, call_standing, executed, is_decided, is_true, takes_arguments, writes_something, addition_standing, checked_standing, standing, standing_of_head}
 use Rattle.site_model.specs.Order.{outcome_behind, outcome_by, outcome_of, with_bytes}
-use Rattle.site_model.specs.Answer.{Asked, answer_for, answer_of_admission, asked_call, unless_cancelled, unless_repeated, addition_answer, answer_of_check, stored_as}
-use Rattle.site_laws.proofs.SettledLemmas.{by_head}
+use Rattle.site_model.specs.Answer.{Asked, answer_for, asked_call, unless_cancelled, unless_repeated, addition_answer, answer_of_check, stored_as}
+use Rattle.site_laws.proofs.SettledLemmas.{by_admission, by_head}
 
 -- ---- what was submitted
 
@@ -49,7 +47,9 @@ same_bytes : (a b : List ℕ) → call.Submitted a ≡ call.Submitted b → a �
 same_bytes a b e = cc
 
 pub ordered_by : (w : Setting) (entries : List Entry) (asked : Asked) (p : StoredProcedure) (bytes : List ℕ) → answer_for w entries asked (Some p) ≡ call.Submitted bytes → Ordered w (items_of entries) p asked bytes
-ordered_by w entries asked p bytes = by_answer (admission asked.args asked.request (Some p)) refl
+ordered_by w entries asked p bytes =
+    by_admission w entries asked p (λ (answer : CallAnswer (List ℕ)). answer ≡ call.Submitted bytes → Ordered w log p asked bytes) (λ refusal e. absurd cc)
+    (λ fits whole. by_run (as_long p.args_len (length asked.args) fits) whole (first_repeated (history w log).certified (asked_call log p asked)) run.cancel_code refl (len run.writes == 0) refl)
   where
     log : Log
     log = items_of entries
@@ -76,19 +76,8 @@ ordered_by w entries asked p bytes = by_answer (admission asked.args asked.reque
       are = same_bytes own bytes (sym (ap (λ (b : Bool). cond b (call.Read (length log) run.reply) (call.Submitted own)) en) ∙ e);
     }
 
-    some_is : (a b : StoredProcedure) → Some a ≡ Some b → a ≡ b
-    some_is a b e = cc
-
     as_long : (m n : ℕ) → n ≡ m → (m == n) ≡ true
     as_long m n e = grind (arith, nat_tests)
-
-    by_answer : (answer : Result StoredProcedure CallRefusal) → admission asked.args asked.request (Some p) ≡ answer → answer_of_admission w entries asked answer ≡ call.Submitted bytes → Ordered w log p asked bytes
-    by_answer (Err refusal) h e = absurd cc
-    by_answer (Ok q) h e =
-        let is = is_admitted asked.args asked.request (Some p) q h in
-        let same : p ≡ q = some_is p q is.found in
-        by_run (as_long p.args_len (length asked.args) (is.fits ∙ ap (λ (x : StoredProcedure). x.args_len) (sym same))) is.whole
-        (first_repeated (history w log).certified (asked_call log p asked)) run.cancel_code refl (len run.writes == 0) refl (ap (λ (x : StoredProcedure). answer_of_admission w entries asked (Ok x)) same ∙ e)
 
 -- ---- behind entries that go on
 

@@ -127,6 +127,12 @@ module _ (s : SiteSetting) (entries : List Entry) (bytes : List ℕ) (call : Cal
   abbrev log : Log
   log = items_of entries
 
+  abbrev setting : Setting
+  setting = s.setting
+
+  abbrev behind : List Entry
+  behind = with_bytes s entries bytes
+
   abbrev next_verdict : Option Verdict
   next_verdict = verdict_of s.setting (items_of (with_bytes s entries bytes)) (length entries + 1)
 
@@ -151,69 +157,57 @@ module _ (s : SiteSetting) (entries : List Entry) (bytes : List ℕ) (call : Cal
   -- stale: more items than the window were ordered since its snapshot
   pub is_stale : StaleMeans → IsLog (items_of (with_bytes s entries bytes)) → outcome_behind s entries bytes ≡ outcome.Stale → s.setting.window < length log - call.snapshot
   is_stale means is_log refused =
-      by_standing w log call bytes (λ st. call_standing w log call bytes ≡ st → outcome_of all st next_verdict ≡ outcome.Stale → w.window < length log - call.snapshot)
+      by_standing setting log call bytes (λ st. call_standing setting log call bytes ≡ st → outcome_of behind st next_verdict ≡ outcome.Stale → setting.window < length log - call.snapshot)
       (λ c is told. absurd cc) decided stands refl (sym outcome_is ∙ refused)
     where
-      w : Setting
-      w = s.setting
-
-      all : List Entry
-      all = with_bytes s entries bytes
-
-      decided : nat_le call.snapshot (length log) ≡ true → is_decided w log call ≡ true → call_standing w log call bytes ≡ IsDecided call → outcome_by all outcome.Stale next_verdict ≡ outcome.Stale → w.window < length log - call.snapshot
-      decided early is stands_so told = by_count (nat_le (length log - call.snapshot) w.window) refl (first_repeated (history w log).certified call) refl is
+      decided : nat_le call.snapshot (length log) ≡ true → is_decided setting log call ≡ true → call_standing setting log call bytes ≡ IsDecided call → outcome_by behind outcome.Stale next_verdict ≡ outcome.Stale → setting.window < length log - call.snapshot
+      decided early is stands_so told = by_count (nat_le (length log - call.snapshot) setting.window) refl (first_repeated (history setting log).certified call) refl is
         where
           none : Call
-          none = call_of_none (procedures_after w log call.snapshot) call.snapshot call.request
+          none = call_of_none (procedures_after setting log call.snapshot) call.snapshot call.request
 
-          by_count : (b : Bool) → nat_le (length log - call.snapshot) w.window ≡ b → (o : Option ℕ) → first_repeated (history w log).certified call ≡ o → (is_some o || not b) ≡ true → w.window < length log - call.snapshot
+          by_count : (b : Bool) → nat_le (length log - call.snapshot) setting.window ≡ b → (o : Option ℕ) → first_repeated (history setting log).certified call ≡ o → (is_some o || not b) ≡ true → setting.window < length log - call.snapshot
           by_count false e o r is = grind (arith, nat_tests)
           by_count true e None r is = absurd cc
           by_count true e (Some n) r is =
               let items = item_is (IsDecided call) stands_so in
-              let repeated = verdict_is (CallItem none) items ∙ repeated_there w log none n (subst IsLog items is_log) r in
-              absurd (not_told n (sym (ap (outcome_by all outcome.Stale) repeated) ∙ told))
+              let repeated = verdict_is (CallItem none) items ∙ repeated_there setting log none n (subst IsLog items is_log) r in
+              absurd (not_told n (sym (ap (outcome_by behind outcome.Stale) repeated) ∙ told))
             where
-              not_told : (n : ℕ) → outcome_by all outcome.Stale (Some (verdict.Repeated n)) ≡ outcome.Stale → ⊥
+              not_told : (n : ℕ) → outcome_by behind outcome.Stale (Some (verdict.Repeated n)) ≡ outcome.Stale → ⊥
               not_told n e = absurd cc
 
-      stands : Stands w log call bytes → call_standing w log call bytes ≡ StandsAs (CallEntry (executed w log call)) → outcome_by all (outcome.Committed (executed w log call).reply) next_verdict ≡ outcome.Stale → w.window < length log - call.snapshot
+      stands : Stands setting log call bytes → call_standing setting log call bytes ≡ StandsAs (CallEntry (executed setting log call)) → outcome_by behind (outcome.Committed (executed setting log call).reply) next_verdict ≡ outcome.Stale → setting.window < length log - call.snapshot
       stands st stands_so told =
-          let items = item_is (StandsAs (CallEntry (executed w log call))) stands_so in
-          let stale = sym (verdict_is (CallItem call) items) ∙ by_stale all (executed w log call).reply next_verdict told in
-          ((means w (log ++ CallItem call ∷ []) (length log) call (subst IsLog items is_log) (last_there log (CallItem call))).0 stale).1
+          let items = item_is (StandsAs (CallEntry (executed setting log call))) stands_so in
+          let stale = sym (verdict_is (CallItem call) items) ∙ by_stale behind (executed setting log call).reply next_verdict told in
+          ((means setting (log ++ CallItem call ∷ []) (length log) call (subst IsLog items is_log) (last_there log (CallItem call))).0 stale).1
 
   -- in conflict with what a committed call wrote, which its run had looked at
   pub is_conflicted : ConflictMeans → IsLog (items_of (with_bytes s entries bytes)) → (position : ℕ) → outcome_behind s entries bytes ≡ outcome.Conflict position
       → IsConflict s.setting (log ++ CallItem call ∷ []) call position (suc (length log)) × (call.snapshot ≤ length log) × (items_of (with_bytes s entries bytes) ≡ log ++ CallItem call ∷ [])
   is_conflicted means is_log position refused =
-      by_standing w log call bytes (λ st. call_standing w log call bytes ≡ st → outcome_of all st next_verdict ≡ outcome.Conflict position → Found)
+      by_standing setting log call bytes (λ st. call_standing setting log call bytes ≡ st → outcome_of behind st next_verdict ≡ outcome.Conflict position → Found)
       (λ c is told. absurd cc) decided stands refl (sym outcome_is ∙ refused)
     where
-      w : Setting
-      w = s.setting
-
-      all : List Entry
-      all = with_bytes s entries bytes
-
       Found : Type 0
-      Found = IsConflict w (log ++ CallItem call ∷ []) call position (suc (length log)) × (call.snapshot ≤ length log) × (items_of all ≡ log ++ CallItem call ∷ [])
+      Found = IsConflict setting (log ++ CallItem call ∷ []) call position (suc (length log)) × (call.snapshot ≤ length log) × (items_of behind ≡ log ++ CallItem call ∷ [])
 
-      decided : nat_le call.snapshot (length log) ≡ true → is_decided w log call ≡ true → call_standing w log call bytes ≡ IsDecided call → outcome_by all outcome.Stale next_verdict ≡ outcome.Conflict position → Found
+      decided : nat_le call.snapshot (length log) ≡ true → is_decided setting log call ≡ true → call_standing setting log call bytes ≡ IsDecided call → outcome_by behind outcome.Stale next_verdict ≡ outcome.Conflict position → Found
       decided early is stands_so told =
-          let none = call_of_none (procedures_after w log call.snapshot) call.snapshot call.request in
+          let none = call_of_none (procedures_after setting log call.snapshot) call.snapshot call.request in
           let items = item_is (IsDecided call) stands_so in
-          let conflict = sym (verdict_is (CallItem none) items) ∙ by_default_conflict all position next_verdict told in
-          let facts = (means w (log ++ CallItem none ∷ []) (length log) none position (subst IsLog items is_log) (last_there log (CallItem none))).0 conflict in
-          absurd (no_conflict_of_none w (log ++ CallItem none ∷ []) none [] position (suc (length log)) refl (none_looks w log call.snapshot call.request (long_enough early)) facts.2.is)
+          let conflict = sym (verdict_is (CallItem none) items) ∙ by_default_conflict behind position next_verdict told in
+          let facts = (means setting (log ++ CallItem none ∷ []) (length log) none position (subst IsLog items is_log) (last_there log (CallItem none))).0 conflict in
+          absurd (no_conflict_of_none setting (log ++ CallItem none ∷ []) none [] position (suc (length log)) refl (none_looks setting log call.snapshot call.request (long_enough early)) facts.2.is)
 
-      stands : Stands w log call bytes → call_standing w log call bytes ≡ StandsAs (CallEntry (executed w log call)) → outcome_by all (outcome.Committed (executed w log call).reply) next_verdict ≡ outcome.Conflict position → Found
+      stands : Stands setting log call bytes → call_standing setting log call bytes ≡ StandsAs (CallEntry (executed setting log call)) → outcome_by behind (outcome.Committed (executed setting log call).reply) next_verdict ≡ outcome.Conflict position → Found
       stands st stands_so told =
-          let items = item_is (StandsAs (CallEntry (executed w log call))) stands_so in
-          let conflict = sym (verdict_is (CallItem call) items) ∙ by_conflict all (executed w log call).reply position next_verdict told in
+          let items = item_is (StandsAs (CallEntry (executed setting log call))) stands_so in
+          let conflict = sym (verdict_is (CallItem call) items) ∙ by_conflict behind (executed setting log call).reply position next_verdict told in
           let is = subst IsLog items is_log in
           let there = last_there log (CallItem call) in
-          let facts = (means w (log ++ CallItem call ∷ []) (length log) call position is there).0 conflict in
+          let facts = (means setting (log ++ CallItem call ∷ []) (length log) call position is there).0 conflict in
           (facts.2.is, omega (arith, placed 0 (log ++ CallItem call ∷ []) (length log) call is there), items)
 
 -- ---- what commits

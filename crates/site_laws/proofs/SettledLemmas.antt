@@ -21,9 +21,11 @@ use Rattle.log_model.proofs.GrowthLemmas.{get_before, is_log_snoc, procedures_gr
 use Rattle.site_model.specs.declared.outcome.EntryOutcome.TheVariants as outcome
 use Rattle.site_model.specs.declared.cause.NothingCause.{NothingCause}
 use Rattle.site_model.specs.declared.cause.NothingCause.TheVariants as cause
+use Rattle.site_model.specs.declared.answer.CallAnswer.{CallAnswer}
 use Rattle.site_model.specs.declared.answer.CallAnswer.TheVariants.{Read, Submitted}
 use Rattle.log_model.specs.declared.refusal.CallRefusal.{CallRefusal}
 use Rattle.log_model.specs.Admission.{admission}
+use Rattle.log_model.specs.OpenRequest.{has_zero}
 use Rattle.log_model.proofs.AdmissionLemmas.{is_admitted}
 use Rattle.site_model.specs.Fit.{AreFitEntries}
 use Rattle.site_model.specs.Standing.{SiteSetting, Standing, StandsAs, IsDecided, IsNothing, call_standing, executed, is_decided, is_true, standing, standing_of_head, takes_arguments, writes_something}
@@ -184,29 +186,35 @@ ordered position r bytes None is writes settled = by_count (len r.writes == 0) (
     by_count true e h = absurd cc
     by_count false e h = h
 
+-- what is answered where the procedure is there: a refusal, or what a run gives that was admitted
+pub by_admission : (w : Setting) (entries : List Entry) (asked : Asked) (p : StoredProcedure) (P : CallAnswer (List ℕ) → Type 0) → ((refusal : CallRefusal) → P (answer_of_admission w entries asked (Err refusal)))
+    → (length asked.args ≡ p.args_len → has_zero asked.request ≡ false → P (answer_of_admission w entries asked (Ok p))) → P (answer_for w entries asked (Some p))
+by_admission w entries asked p P refused admitted = by_answer (admission asked.args asked.request (Some p)) refl
+  where
+    some_is : (a b : StoredProcedure) → Some a ≡ Some b → a ≡ b
+    some_is a b e = cc
+
+    by_answer : (answer : Result StoredProcedure CallRefusal) → admission asked.args asked.request (Some p) ≡ answer → P (answer_of_admission w entries asked answer)
+    by_answer (Err refusal) h = refused refusal
+    by_answer (Ok q) h =
+        let is = is_admitted asked.args asked.request (Some p) q h in
+        let same : p ≡ q = some_is p q is.found in
+        subst (λ (x : StoredProcedure). P (answer_of_admission w entries asked (Ok x))) same (admitted (is.fits ∙ ap (λ (x : StoredProcedure). x.args_len) (sym same)) is.whole)
+
 -- an answer that is settled comes of a run that isn't
 settled_by : (w : Setting) (entries : List Entry) (asked : Asked) (p : StoredProcedure) → writes_something (run_in w (items_of entries) (asked_call (items_of entries) p asked)) ≡ true
     → IsSettled (answer_for w entries asked (Some p)) → ⊥
-settled_by w entries asked p writes = by_answer (admission asked.args asked.request (Some p)) refl
+settled_by w entries asked p writes =
+    by_admission w entries asked p (λ (answer : CallAnswer (List ℕ)). IsSettled answer → ⊥) (λ refusal settled. settled) (λ fits whole. by_run (first_repeated (history w log).certified (asked_call log p asked)))
   where
     log : Log
     log = items_of entries
 
-    run : Run
-    run = run_in w log (asked_call log p asked)
-
     by_run : (o : Option ℕ) → IsSettled (unless_repeated entries (answer_of_run w log (asked_call log p asked)) o) → ⊥
     by_run (Some position) h = h
-    by_run None h = ordered (length log) run (entry_bytes (CallEntry (executed w log (asked_call log p asked)))) run.cancel_code refl writes h
-
-    some_is : (a b : StoredProcedure) → Some a ≡ Some b → a ≡ b
-    some_is a b e = cc
-
-    by_answer : (answer : Result StoredProcedure CallRefusal) → admission asked.args asked.request (Some p) ≡ answer → IsSettled (answer_of_admission w entries asked answer) → ⊥
-    by_answer (Err refusal) h settled = settled
-    by_answer (Ok q) h settled =
-        by_run (first_repeated (history w log).certified (asked_call log p asked))
-        (subst (λ (x : StoredProcedure). IsSettled (answer_of_admission w entries asked (Ok x))) (sym (some_is p q (is_admitted asked.args asked.request (Some p) q h).found)) settled)
+    by_run None h =
+        let run = run_in w log (asked_call log p asked) in
+        ordered (length log) run (entry_bytes (CallEntry (executed w log (asked_call log p asked)))) run.cancel_code refl writes h
 
 -- ---- the run of what was asked
 

@@ -45,7 +45,7 @@ use Rattle.bpf_bytes.specs.Decoding.{completed_load, program_of, reading_of_slot
 use Rattle.bpf_bytes.specs.Steps.{IsFirstHalf, IsHalf, half_bytes}
 use Rattle.bpf_bytes.proofs.DecodeLemmas.{first_bytes, slots_of-cons}
 use Rattle.bpf_bytes.proofs.SpellingLemmas.{instruction_bytes-short}
-use Rattle.site_laws.proofs.DecodingLemmas.{FieldsFit, below_half, fields_are, half_below, high_half, is_same, of_or_fault, of_slot, program_is, reads, where_unused, whole_slots, with_front_ok}
+use Rattle.site_laws.proofs.DecodingLemmas.{FieldsFit, below_half, by_first_half, fields_are, half_below, high_half, is_same, of_or_fault, of_slot, program_is, reads, where_unused, whole_slots, with_front_ok}
 
 -- ---- what tests say
 
@@ -366,24 +366,17 @@ half_is_spelled f high fit = by_tests (unused_are_zero used f) refl (f.opcode ==
         let immediate = ap (cast_signed w32) (sym (same (cast_unsigned w32 f.immediate) high e)) ∙ to_z-of_z w32 f.immediate fit.immediate in
         λ i. record { opcode = first i; dst = dst i; src = src i; offset = offset i; immediate = immediate i }
 
-completed_bytes : (first : Instruction) (high : ℕ) → IsFirstHalf first → high < 2 ^ 32 → instruction_bytes (completed_load first high) ≡ bytes_of (fields_of first) ++ bytes_of (second_half high)
+completed_wide : (dst : Register) (low high : ℕ) → low < 2 ^ 32 → high < 2 ^ 32
+    → instruction_bytes (completed_load (instruction.LoadWide dst low) high) ≡ bytes_of (fields_of (instruction.LoadWide dst low)) ++ bytes_of (second_half high)
 unfolding instruction_bytes fields_of
-completed_bytes (instruction.LoadWide dst low) high half below =
+completed_wide dst low high half below =
     let low_part : (low + 2 ^ 32 * high) % 2 ^ 32 ≡ low % 2 ^ 32 = omega arith in
     let high_part : (low + 2 ^ 32 * high) / 2 ^ 32 ≡ high = omega arith in
     λ i. bytes_of (slot opcode.LoadWide (number_of dst) 0 (pos 0) (cast_signed w32 (low_part i))) ++ bytes_of (second_half (high_part i))
-completed_bytes (instruction.Load _ _ _ _) high half below = absurd half
-completed_bytes (instruction.StoreImmediate _ _ _ _) high half below = absurd half
-completed_bytes (instruction.StoreRegister _ _ _ _) high half below = absurd half
-completed_bytes (instruction.Arithmetic _ _ _ _) high half below = absurd half
-completed_bytes (instruction.Negate _ _) high half below = absurd half
-completed_bytes (instruction.MoveSignExtended _ _ _) high half below = absurd half
-completed_bytes (instruction.End _ _ _) high half below = absurd half
-completed_bytes (instruction.Jump _) high half below = absurd half
-completed_bytes (instruction.LongJump _) high half below = absurd half
-completed_bytes (instruction.Branch _ _ _ _ _) high half below = absurd half
-completed_bytes (instruction.Call _) high half below = absurd half
-completed_bytes instruction.Exit high half below = absurd half
+
+completed_bytes : (first : Instruction) (high : ℕ) → IsFirstHalf first → high < 2 ^ 32 → instruction_bytes (completed_load first high) ≡ bytes_of (fields_of first) ++ bytes_of (second_half high)
+completed_bytes first high half below =
+    by_first_half (λ (i : Instruction). instruction_bytes (completed_load i high) ≡ bytes_of (fields_of i) ++ bytes_of (second_half high)) (λ dst low small. completed_wide dst low high small below) first half
 
 slots_spelled : (fs : List Fields) (half : Option Instruction) (at : ℕ) (p : Program) → AllByRecursion FieldsFit fs → IsHalf half → reading_of_slots half at fs ≡ Ok p → spelling p ≡ half_bytes half ++ flat_map bytes_of fs
 unfolding reading_of_slots
