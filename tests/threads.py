@@ -4,7 +4,7 @@ node of eight replicas with 128 callers (crates/node_bench).
 
 A program whose growths are refused has the library of tests/refusing.c preloaded.
 
-tests/threads.py [CALLS [SEED]]   such a soak alone, of 200,000 calls or as many as are said; crates/node_bench is built
+tests/threads.py [CALLS [SEED]]   such a soak alone, of 1,000,000 calls or as many as are said; crates/node_bench is built
 """
 import collections
 import os
@@ -325,7 +325,7 @@ def run_long(program, tally):
 
 def main():
     tally, numbers = Tally(), [int(it) for it in sys.argv[1:3]]
-    calls, seed = [*numbers, 200_000, random.randrange(1 << 30)][:2] if len(numbers) != 1 else [*numbers, random.randrange(1 << 30)]
+    calls, seed = [*numbers, 1_000_000, random.randrange(1 << 30)][:2] if len(numbers) != 1 else [*numbers, random.randrange(1 << 30)]
     with tempfile.TemporaryDirectory(prefix="threads-") as room:
         library = refusing(room)
         if library is None:

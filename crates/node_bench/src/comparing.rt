@@ -2,15 +2,14 @@
 
 ghost use Rattle.std.specs.Prelude.{◌<◌, ◌^◌, length};
 
+use crate::long_log::LongReplay;
 use crate::procedures::ACCOUNTS;
 use locked_replica::{LockedReplica, LogSetting};
 use log_entry::Entry;
 use log_model::Verdict;
 use node::Finish;
 use node_calls::OpenGate;
-use plain_replayer::{
-    CompletedReplay, PlainCall, PlainItem, PlainItemKind, PlainSetting, Row, replay_log,
-};
+use plain_replayer::{PlainCall, PlainItem, PlainItemKind, PlainSetting, Row, replay_log};
 use schema::{Look, MAX_LOG};
 use std::alloc::Global;
 use std::sync::Wait;
@@ -66,27 +65,56 @@ fn has_rows<S: Store>(store: &S, rows: &[Row]) -> bool {
     rows.iter().all(|row| store.get(row.table(), row.key()) == Ok(Some(row.bytes())))
 }
 
-/// Tells whether a replica's position is the log's end, and its verdicts and rows are those of the replay.
-fn follows<J: LogSetting>(replica: &LockedReplica<J>, replay: &CompletedReplay) -> bool {
-    let end = replay.reports().len();
-    if replica.stopped() || replica.position() as usize != end {
+/// Tells whether a replica's position is the log's end, and its verdicts and rows are these.
+fn follows<J: LogSetting>(replica: &LockedReplica<J>, verdicts: &[Verdict], rows: &[Row]) -> bool {
+    if replica.stopped() || replica.position() as usize != verdicts.len() {
         return false;
     }
     let mut position = 0u32;
-    for report in replay.reports() {
+    for verdict in verdicts {
         position = position.wrapping_add(1);
         if position == 0 || position > replica.position() {
             return false;
         }
-        if replica.verdict_at(position) != report.verdict() {
+        if replica.verdict_at(position) != *verdict {
             return false;
         }
     }
     let seen = replica.seen();
-    match replay.rows(end) {
-        Some(rows) => has_rows(&replica.at(&seen), rows),
-        None => false,
+    has_rows(&replica.at(&seen), rows)
+}
+
+/// The length of a log up to which the plain replay, which takes time by the square of the length, runs too.
+const SHORT_LOG: usize = 30_000;
+
+/// Tells whether the plain replay gives these verdicts and these rows, where the log isn't too long for that. Returns
+/// `None` where memory is wanting.
+fn is_plain(
+    alloc: Global,
+    setting: &PlainSetting,
+    items: &[PlainItem],
+    verdicts: &[Verdict],
+    rows: &[Row],
+) -> Option<bool> {
+    if items.len() > SHORT_LOG {
+        return Some(true);
     }
+    let replay = replay_log(alloc, setting, short(items)).ok()?;
+    let plain_rows = replay.rows(items.len())?;
+    Some(
+        replay.reports().len() == verdicts.len()
+            && replay
+                .reports()
+                .iter()
+                .zip(verdicts)
+                .all(|(report, verdict)| report.verdict() == *verdict)
+            && plain_rows.len() == rows.len()
+            && plain_rows.iter().zip(rows).all(|(plain, row)| {
+                plain.table() == row.table()
+                    && plain.key() == row.key()
+                    && plain.bytes() == row.bytes()
+            }),
+    )
 }
 
 /// Returns the number in a row of 8 bytes.
@@ -97,20 +125,16 @@ fn number_in(row: &Row) -> u64 {
     }
 }
 
-/// Returns the number of calls that commit in the replay.
-fn commits_in(replay: &CompletedReplay) -> u64 {
-    replay
-        .reports()
+/// Returns the number of commits.
+fn commits_in(verdicts: &[Verdict]) -> u64 {
+    verdicts
         .iter()
-        .filter(|report| report.verdict() == Verdict::Commit)
+        .filter(|verdict| **verdict == Verdict::Commit)
         .count() as u64
 }
 
-/// Returns the money of all accounts together, at the end of the replay.
-fn money_in(replay: &CompletedReplay) -> u64 {
-    let Some(rows) = replay.rows(replay.reports().len()) else {
-        return 0;
-    };
+/// Returns the money of all accounts together.
+fn money_in(rows: &[Row]) -> u64 {
     rows.iter()
         .filter(|row| row.key() < u64::from(ACCOUNTS))
         .fold(0u64, |sum, row| sum.wrapping_add(number_in(row)))
@@ -119,7 +143,7 @@ fn money_in(replay: &CompletedReplay) -> u64 {
 /// The result of the comparison.
 #[derive(Clone, Copy, Debug, PartialEq, Eq, Drop)]
 pub(crate) struct Comparison {
-    /// True where each replica has delivered the whole log, with the verdicts and the rows of the plain replay.
+    /// True where each replica has delivered the whole log, with the verdicts and the rows of a plain replay.
     pub(crate) same: bool,
     /// The number of calls that commit in the replay.
     pub(crate) commits: u64,
@@ -127,7 +151,7 @@ pub(crate) struct Comparison {
     pub(crate) money: u64,
 }
 
-/// Compares each of `replicas` replicas with the plain replay of the log. Returns `None` where memory is wanting.
+/// Compares each of `replicas` replicas with a plain replay of the log. Returns `None` where memory is wanting.
 pub(crate) fn compare<J: LogSetting + Ledgers, R: Wait>(
     rt: &R,
     alloc: Global,
@@ -136,16 +160,18 @@ pub(crate) fn compare<J: LogSetting + Ledgers, R: Wait>(
     replicas: u32,
 ) -> Option<Comparison> {
     let items = items_of(alloc, finish)?;
-    let replay = replay_log(alloc, setting, short(&items)).ok()?;
-    let mut same = replay.reports().len() == items.len();
+    let replay = LongReplay::new(alloc, setting, &items)?;
+    let (verdicts, rows) = (replay.verdicts(), replay.rows(setting)?);
+    let mut same = verdicts.len() == items.len()
+        && is_plain(alloc, setting, &items, verdicts, rows)?;
     for place in 0..replicas {
         let replica = finish.replica(place.wrapping_add(1))?;
         let locked = replica.read(rt);
-        same = same && follows(&locked, &replay);
+        same = same && follows(&locked, verdicts, rows);
     }
     Some(Comparison {
         same,
-        commits: commits_in(&replay),
-        money: money_in(&replay),
+        commits: commits_in(verdicts),
+        money: money_in(rows),
     })
 }

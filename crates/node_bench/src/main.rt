@@ -13,6 +13,7 @@ ghost use Rattle.tallies.specs.Tallies.{names_by_place};
 
 mod calling;
 mod comparing;
+mod long_log;
 mod procedures;
 
 use crate::calling::{
