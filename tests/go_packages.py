@@ -18,7 +18,7 @@ def there(tally):
 
 
 def run_tests(tree, tally, *more):
-    """Counts the server's tests, and prints which failed, and which were under way when their package did."""
+    """Counts the server's tests, and prints which failed, with their parts, and which were under way when their package did."""
     passed, failed, said, ended = 0, [], {}, set()
     ran = tree.ran("go", "test", "-json", "-count=1", f"-timeout={MINUTES}m", *more, "./...")
     for line in ran.stdout.splitlines():
@@ -32,7 +32,7 @@ def run_tests(tree, tally, *more):
             ended.add(name)
         if event["Action"] == "output":
             said.setdefault(name, []).append(event["Output"])
-        elif event["Action"] == "fail" and "/" not in name[1]:
+        elif event["Action"] == "fail":
             failed.append(name)
         elif event["Action"] == "pass" and name[1] and "/" not in name[1]:
             passed += 1
@@ -43,9 +43,9 @@ def run_tests(tree, tally, *more):
     packages = {package for package, _ in failed}
     for name in sorted(name for name in said if name[0] in packages and name not in ended):
         print(f"{' '.join(name)}: DIDN'T END\n{''.join(said[name])}", end="")
-    whole = ran.returncode == 0 and passed > 0
-    print(f"tests of the server{' '.join(['', *more])}: {passed} passed, {len(failed)} failed", flush=True)
-    tally.count(passed, len(failed) or int(not whole))
+    whole, count = ran.returncode == 0 and passed > 0, sum("/" not in test for _, test in failed)
+    print(f"tests of the server{' '.join(['', *more])}: {passed} passed, {count} failed", flush=True)
+    tally.count(passed, count or int(not whole))
 
 
 def run(program, tally):

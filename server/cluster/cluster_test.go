@@ -16,6 +16,7 @@ import (
 
 	"dsmdb/server/batch"
 	"dsmdb/server/order"
+	"dsmdb/server/ports"
 )
 
 // server is what a server has of a cluster: a folder, a member and an order.
@@ -53,12 +54,11 @@ func (l *lines) String() string {
 
 func freePort(t *testing.T) int {
 	t.Helper()
-	taken, err := net.Listen("tcp", "127.0.0.1:0")
+	port, err := ports.Free()
 	if err != nil {
 		t.Fatal(err)
 	}
-	defer taken.Close()
-	return taken.Addr().(*net.TCPAddr).Port
+	return port
 }
 
 // prepared returns the servers of a new cluster, whose folders are begun.

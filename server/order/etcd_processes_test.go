@@ -4,7 +4,6 @@ import (
 	"bytes"
 	"context"
 	"fmt"
-	"net"
 	"os"
 	"os/exec"
 	"path/filepath"
@@ -13,6 +12,8 @@ import (
 	"syscall"
 	"testing"
 	"time"
+
+	"dsmdb/server/ports"
 
 	pb "go.etcd.io/etcd/etcdserver/etcdserverpb"
 	"google.golang.org/grpc"
@@ -88,15 +89,13 @@ func run(c *etcds, count int) *etcds {
 	return c
 }
 
-// freePort returns a port of the loopback address that nobody had a moment ago.
 func freePort(t *testing.T) int {
 	t.Helper()
-	taken, err := net.Listen("tcp", "127.0.0.1:0")
+	port, err := ports.Free()
 	if err != nil {
 		t.Fatal(err)
 	}
-	defer taken.Close()
-	return taken.Addr().(*net.TCPAddr).Port
+	return port
 }
 
 func (c *etcds) start(at int) {

@@ -1,5 +1,6 @@
 """Nodes of etcd on loopback, and a relay before one that cuts connections."""
 import contextlib
+import itertools
 import os
 import shutil
 import socket
@@ -13,10 +14,20 @@ THERE = shutil.which("etcd") is not None and shutil.which("etcdctl") is not None
 NOT_THERE = "no etcd is here (apt-get install etcd-server etcd-client)"
 
 
+def ports():
+    """Returns ports of this process, below those that Linux gives to connections."""
+    first = os.getpid() * 400 % 20000
+    return itertools.cycle([*range(10000 + first, 30000), *range(10000, 10000 + first)])
+
+
+PORTS = ports()
+
+
 def free_port():
-    with contextlib.closing(socket.socket()) as it:
-        it.bind(("127.0.0.1", 0))
-        return it.getsockname()[1]
+    for port in PORTS:
+        with contextlib.closing(socket.socket()) as it, contextlib.suppress(OSError):
+            it.bind(("127.0.0.1", port))
+            return port
 
 
 class Node:

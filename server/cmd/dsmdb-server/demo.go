@@ -5,7 +5,6 @@ import (
 	"encoding/hex"
 	"errors"
 	"fmt"
-	"net"
 	"os"
 	"os/exec"
 	"path/filepath"
@@ -17,6 +16,7 @@ import (
 
 	"dsmdb/server/client"
 	"dsmdb/server/layout"
+	"dsmdb/server/ports"
 	"github.com/spf13/cobra"
 )
 
@@ -100,13 +100,17 @@ func (d *demo) start(example string) error {
 	}
 	var members, folders []string
 	for _, name := range []string{"one", "two", "three"} {
-		ports, err := freePorts(2)
+		peer, err := ports.Free()
+		if err != nil {
+			return err
+		}
+		web, err := ports.Free()
 		if err != nil {
 			return err
 		}
 		data := filepath.Join(d.folder, name)
-		members, folders = append(members, fmt.Sprintf("%s=http://127.0.0.1:%d", name, ports[0])), append(folders, data)
-		http := fmt.Sprintf("127.0.0.1:%d", ports[1])
+		members, folders = append(members, fmt.Sprintf("%s=http://127.0.0.1:%d", name, peer)), append(folders, data)
+		http := fmt.Sprintf("127.0.0.1:%d", web)
 		d.servers = append(d.servers, &demoServer{name: name, data: data, http: http, words: []string{
 			"serve", filepath.Join(example, "settings"), "--data", data, "--layout", filepath.Join(example, "layout.json"),
 			"--http", http, "--open",
@@ -125,19 +129,6 @@ func (d *demo) start(example string) error {
 		fmt.Printf("console of server %s: http://%s/\n", it.name, it.http)
 	}
 	return d.openAccounts()
-}
-
-func freePorts(count int) ([]int, error) {
-	var ports []int
-	for len(ports) < count {
-		listener, err := net.Listen("tcp", "127.0.0.1:0")
-		if err != nil {
-			return nil, fmt.Errorf("finding a free port: %w", err)
-		}
-		defer listener.Close()
-		ports = append(ports, listener.Addr().(*net.TCPAddr).Port)
-	}
-	return ports, nil
 }
 
 func (s *demoServer) start(program, log string) error {
