@@ -1,11 +1,12 @@
 -- The catalogue of a database: its tables, and its stored procedures in order of entry.
-use Rattle.std.specs.Prelude.{◌≡◌, ℕ, All, map, nat_eq, true}
+use Rattle.std.specs.Prelude.{◌≡◌, ℕ, [], All, map, nat_eq, true}
 use Rattle.std.specs.List.{IsDistinct}
+use Rattle.std.specs.FinMap.{empty}
 use Rattle.std.specs.Str.{bytes_eq}
 use Rattle.bpf_code.specs.Program.{IsProgram}
 use Rattle.schema.specs.Schema.{Tables, AreTables}
 use Rattle.bpf_verify.specs.Flow.{Procedure, IsAccepted}
-use Rattle.log_model.specs.Log.{StoredProcedure, Catalogue, Setting}
+use Rattle.log_model.specs.Log.{StoredProcedure, Catalogue, Beginning, Setting}
 use Rattle.log_model.specs.Name.{is_name}
 use Rattle.catalogue.specs.Stored.{ListedProcedure}
 pub use Rattle.log_model.specs.Log.{by_name}
@@ -15,9 +16,13 @@ pub record SystemCatalogue : Type 0 where
   pub tables : Tables
   pub procedures : Catalogue
 
+-- what a database with this catalogue has before its log: its procedures, no rows, and nothing that was done
+abbrev pub beginning_of : SystemCatalogue → Beginning
+beginning_of catalogue = record { rows = empty; procedures = catalogue.procedures; requests = [] }
+
 -- what all replicas of a database with this catalogue have in common, under a window
 abbrev pub system_setting : SystemCatalogue → ℕ → Setting
-system_setting catalogue window = record { tables = catalogue.tables; catalogue = catalogue.procedures; window = window }
+system_setting catalogue window = record { tables = catalogue.tables; beginning = beginning_of catalogue; window = window }
 
 -- the program of a stored procedure, as it is accepted for some tables
 abbrev pub accepted_of : Tables → StoredProcedure → Procedure

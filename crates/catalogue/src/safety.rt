@@ -4,8 +4,8 @@ ghost use Rattle.std.specs.Prelude.{◌≡◌, ℕ, Some};
 ghost use Rattle.bpf_code.specs.Program.{IsProgram};
 ghost use Rattle.schema.specs.Schema.{Tables, AreTables};
 ghost use Rattle.bpf_verify.specs.Flow.{IsAccepted};
-ghost use Rattle.log_model.specs.Log.{StoredProcedure, Setting, by_number};
-ghost use Rattle.log_model.specs.Fit.{IsSafe, HasSafeProcedures};
+ghost use Rattle.log_model.specs.Log.{StoredProcedure, Catalogue, by_number};
+ghost use Rattle.log_model.specs.Fit.{IsSafe, AreSafe};
 
 use acceptance::accepted_programs_never_go_wrong;
 
@@ -20,12 +20,12 @@ pub fn accepted_procedures_are_safe()
     accepted_programs_never_go_wrong();
 }
 
-/// Safety holds of all procedures of a catalogue where each was accepted with the tables of the setting.
+/// Procedures that were each accepted with some tables are safe over those tables.
 pub fn catalogues_of_accepted_procedures_are_safe()
-    ensures { (w : Setting) → AreTables w.tables
-        → ((number : ℕ) (p : StoredProcedure) → by_number w.catalogue number ≡ Some p
-        → IsProgram p.program × IsAccepted (record { program = p.program; tables = w.tables; args_len = p.args_len }))
-        → HasSafeProcedures w }
+    ensures { (tables : Tables) (procedures : Catalogue) → AreTables tables
+        → ((number : ℕ) (p : StoredProcedure) → by_number procedures number ≡ Some p
+        → IsProgram p.program × IsAccepted (record { program = p.program; tables = tables; args_len = p.args_len }))
+        → AreSafe tables procedures }
 {
     // Laws:
     accepted_procedures_are_safe();

@@ -6,7 +6,7 @@ use Rattle.std.specs.List.{list_any}
 use Rattle.std.proofs.lemmas.Bool.Decides.{nat_tests}
 use Rattle.schema.specs.declared.look.Look.{Look}
 use Rattle.sig_lanes.specs.Signature.{shares_bit}
-use Rattle.log_model.specs.Log.{Call, CertifiedItem, is_commit, conflicts, first_repeated}
+use Rattle.log_model.specs.Log.{Call, DoneRequest, CertifiedItem, is_commit, conflicts, first_repeated}
 use Rattle.certify.specs.Comparisons.{comparisons_from, comparisons_after, AreRising, IsCompared}
 use Rattle.log_model.proofs.RunLemmas.{just}
 use Rattle.certify.proofs.ListLemmas.{get_drop}
@@ -123,9 +123,9 @@ split looks s k cs e = elim (nat_le (s + 1) k) as (λ b. nat_le (s + 1) k ≡ b 
   | false ↦ λ f. absurd (let lt : k < s + 1 = grind (arith, nat_tests) in none_below looks (s + 1) k cs lt e)
 ] refl
 
-compared : (window : ℕ) (past : List CertifiedItem) (call : Call) (looks : List Look) (position : ℕ) → first_repeated past call ≡ None → length past - call.snapshot ≤ window → has position (comparisons_from looks (call.snapshot + 1) (drop call.snapshot past)) ≡ true
-    → IsCompared window past call looks position
-compared window past call looks position new near e =
+compared : (window : ℕ) (done : List DoneRequest) (past : List CertifiedItem) (call : Call) (looks : List Look) (position : ℕ) → first_repeated done past call ≡ None → length past - call.snapshot ≤ window → has position (comparisons_from looks (call.snapshot + 1) (drop call.snapshot past)) ≡ true
+    → IsCompared window done past call looks position
+compared window done past call looks position new near e =
     let (i, is) = split looks call.snapshot position (drop call.snapshot past) e in
     let at = from_means looks (call.snapshot + 1) i (drop call.snapshot past) (ap (λ k. has k (comparisons_from looks (call.snapshot + 1) (drop call.snapshot past))) (sym is) ∙ e) in
     record {
@@ -144,20 +144,20 @@ compared window past call looks position new near e =
           not_both (conflicts looks d) test (at.first (other - call.snapshot) d (omega arith) (get_drop past call.snapshot (other - call.snapshot) ∙ ap (slice_get past) back ∙ stands));
     }
 
-pub compared_if : (window : ℕ) (past : List CertifiedItem) (call : Call) (looks : List Look) (position : ℕ) → IsTrue (list_any (λ x. nat_eq x position) (comparisons_after window past call looks)) → IsCompared window past call looks position
+pub compared_if : (window : ℕ) (done : List DoneRequest) (past : List CertifiedItem) (call : Call) (looks : List Look) (position : ℕ) → IsTrue (list_any (λ x. nat_eq x position) (comparisons_after window done past call looks)) → IsCompared window done past call looks position
 unfolding comparisons_after
-compared_if window past call looks position e = by (first_repeated past call) refl e
+compared_if window done past call looks position e = by (first_repeated done past call) refl e
   where
-    by : (o : Option ℕ) → first_repeated past call ≡ o → has position (cond (is_some o) [] (cond (nat_le (length past - call.snapshot) window) (comparisons_from looks (call.snapshot + 1) (drop call.snapshot past)) [])) ≡ true → IsCompared window past call looks position
+    by : (o : Option ℕ) → first_repeated done past call ≡ o → has position (cond (is_some o) [] (cond (nat_le (length past - call.snapshot) window) (comparisons_from looks (call.snapshot + 1) (drop call.snapshot past)) [])) ≡ true → IsCompared window done past call looks position
     by (Some n) f h = absurd cc
-    by None f h = elim (nat_le (length past - call.snapshot) window) as (λ b. nat_le (length past - call.snapshot) window ≡ b → has position (cond b (comparisons_from looks (call.snapshot + 1) (drop call.snapshot past)) []) ≡ true → IsCompared window past call looks position) [
-      | true ↦ λ t g. compared window past call looks position f (recent (length past - call.snapshot) window t) g
+    by None f h = elim (nat_le (length past - call.snapshot) window) as (λ b. nat_le (length past - call.snapshot) window ≡ b → has position (cond b (comparisons_from looks (call.snapshot + 1) (drop call.snapshot past)) []) ≡ true → IsCompared window done past call looks position) [
+      | true ↦ λ t g. compared window done past call looks position f (recent (length past - call.snapshot) window t) g
       | false ↦ λ t g. absurd cc
     ] refl h
 
-pub if_compared : (window : ℕ) (past : List CertifiedItem) (call : Call) (looks : List Look) (position : ℕ) → IsCompared window past call looks position → IsTrue (list_any (λ x. nat_eq x position) (comparisons_after window past call looks))
+pub if_compared : (window : ℕ) (done : List DoneRequest) (past : List CertifiedItem) (call : Call) (looks : List Look) (position : ℕ) → IsCompared window done past call looks position → IsTrue (list_any (λ x. nat_eq x position) (comparisons_after window done past call looks))
 unfolding comparisons_after
-if_compared window past call looks position is =
+if_compared window done past call looks position is =
     let since = is.since in
     let place = is.place in
     let i = is.before - call.snapshot in
@@ -212,9 +212,9 @@ from_rises looks n (c ∷ cs) =
           ]
     ]
 
-pub comparisons_rise : (window : ℕ) (past : List CertifiedItem) (call : Call) (looks : List Look) → AreRising (comparisons_after window past call looks)
+pub comparisons_rise : (window : ℕ) (done : List DoneRequest) (past : List CertifiedItem) (call : Call) (looks : List Look) → AreRising (comparisons_after window done past call looks)
 unfolding comparisons_after
-comparisons_rise window past call looks = elim (is_some (first_repeated past call)) as (λ a. AreRising (cond a [] (cond (nat_le (length past - call.snapshot) window) (comparisons_from looks (call.snapshot + 1) (drop call.snapshot past)) []))) [
+comparisons_rise window done past call looks = elim (is_some (first_repeated done past call)) as (λ a. AreRising (cond a [] (cond (nat_le (length past - call.snapshot) window) (comparisons_from looks (call.snapshot + 1) (drop call.snapshot past)) []))) [
   | true ↦ tt
   | false ↦ elim (nat_le (length past - call.snapshot) window) as (λ b. AreRising (cond b (comparisons_from looks (call.snapshot + 1) (drop call.snapshot past)) [])) [
     | true ↦ (from_rises looks (call.snapshot + 1) (drop call.snapshot past)).rising

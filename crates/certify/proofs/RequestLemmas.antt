@@ -4,7 +4,7 @@ use Rattle.std.specs.Map.{lookup}
 use Rattle.std.proofs.lemmas.Bool.Decides.{nat_tests}
 use Rattle.log_model.specs.declared.request.RequestId.{RequestId}
 use Rattle.log_model.specs.declared.verdict.Verdict.{Verdict}
-use Rattle.log_model.specs.Log.{CertifiedItem, is_commit, same_request, repeats, first_position}
+use Rattle.log_model.specs.Log.{DoneRequest, CertifiedItem, is_commit, same_request, repeats, first_position, done_under, was_done, done_at}
 use Rattle.certify.specs.Kept.{key_of, IsRequest, KeepsRequests}
 
 abbrev just : {X : Type 0} → X → Option X
@@ -35,6 +35,20 @@ first_unless test n past c e = first_one_more test n past c ∙ ap (λ b. or_els
     by : (o : Option ℕ) → or_else o None ≡ o
     by (Some x) = refl
     by None = refl
+
+-- ---- where a request was done
+
+done_one_more : (done : List DoneRequest) (past : List CertifiedItem) (c : CertifiedItem) (request : Option RequestId) → done_at done (past ++ c ∷ []) request ≡ or_else (done_at done past request) (cond (repeats request c) (just (1 + length past)) None)
+done_one_more done past c request = elim (was_done done request) as (λ b. cond b (just 0) (first_position (repeats request) 1 (past ++ c ∷ [])) ≡ or_else (cond b (just 0) (first_position (repeats request) 1 past)) (cond (repeats request c) (just (1 + length past)) None)) [
+  | true ↦ refl
+  | false ↦ first_one_more (repeats request) 1 past c
+]
+
+done_unless : (done : List DoneRequest) (past : List CertifiedItem) (c : CertifiedItem) (request : Option RequestId) → repeats request c ≡ false → done_at done (past ++ c ∷ []) request ≡ done_at done past request
+done_unless done past c request e = elim (was_done done request) as (λ b. cond b (just 0) (first_position (repeats request) 1 (past ++ c ∷ [])) ≡ cond b (just 0) (first_position (repeats request) 1 past)) [
+  | true ↦ refl
+  | false ↦ first_unless (repeats request) 1 past c e
+]
 
 no_commit : (a b : Bool) → a ≡ false → (a && b) ≡ false
 no_commit true b e = absurd cc
@@ -73,8 +87,8 @@ same_key r s is other =
 
 -- ---- one more item
 
-pub not_kept : (entries : List (ℕ × ℕ)) (past : List CertifiedItem) (c : CertifiedItem) → ((r : RequestId) → IsRequest r → repeats (Some r) c ≡ false) → KeepsRequests entries past → KeepsRequests entries (past ++ c ∷ [])
-not_kept entries past c none keeps r is = keeps r is ∙ sym (first_unless (repeats (Some r)) 1 past c (none r is))
+pub not_kept : (entries : List (ℕ × ℕ)) (done : List DoneRequest) (past : List CertifiedItem) (c : CertifiedItem) → ((r : RequestId) → IsRequest r → repeats (Some r) c ≡ false) → KeepsRequests entries done past → KeepsRequests entries done (past ++ c ∷ [])
+not_kept entries done past c none keeps r is = keeps r is ∙ sym (done_unless done past c (Some r) (none r is))
 
 pub of_refused : (c : CertifiedItem) (r : RequestId) → is_commit c.verdict ≡ false → repeats (Some r) c ≡ false
 of_refused c r e = no_commit (is_commit c.verdict) (same_request (Some r) c.request) e
@@ -91,10 +105,10 @@ committed_repeats c r s e carried is other =
     ap (λ b. b && same_request (Some r) c.request) e ∙ ap (same_request (Some r)) carried ∙ sym (same_key r s is other)
 
 -- where the key is there already, an earlier one stays
-pub kept_before : (entries : List (ℕ × ℕ)) (past : List CertifiedItem) (c : CertifiedItem) (s : RequestId) → is_commit c.verdict ≡ true → c.request ≡ Some s → IsRequest s → is_some (lookup (nat_eq (key_of s)) entries) ≡ true → KeepsRequests entries past → KeepsRequests entries (past ++ c ∷ [])
-kept_before entries past c s commit carried is there keeps r one =
-    elim (nat_eq (key_of r) (key_of s)) as (λ b. nat_eq (key_of r) (key_of s) ≡ b → lookup (nat_eq (key_of r)) entries ≡ first_position (repeats (Some r)) 1 (past ++ c ∷ [])) [
-      | false ↦ λ e. keeps r one ∙ sym (first_unless (repeats (Some r)) 1 past c (committed_repeats c r s commit carried one is ∙ e))
+pub kept_before : (entries : List (ℕ × ℕ)) (done : List DoneRequest) (past : List CertifiedItem) (c : CertifiedItem) (s : RequestId) → is_commit c.verdict ≡ true → c.request ≡ Some s → IsRequest s → is_some (lookup (nat_eq (key_of s)) entries) ≡ true → KeepsRequests entries done past → KeepsRequests entries done (past ++ c ∷ [])
+kept_before entries done past c s commit carried is there keeps r one =
+    elim (nat_eq (key_of r) (key_of s)) as (λ b. nat_eq (key_of r) (key_of s) ≡ b → lookup (nat_eq (key_of r)) entries ≡ done_at done (past ++ c ∷ []) (Some r)) [
+      | false ↦ λ e. keeps r one ∙ sym (done_unless done past c (Some r) (committed_repeats c r s commit carried one is ∙ e))
       | true ↦ λ e.
           let same : key_of s ≡ key_of r = is_eq (key_of r) (key_of s) e in
           by (lookup (nat_eq (key_of r)) entries) refl (ap (λ (k : ℕ). is_some (lookup (nat_eq k) entries)) (sym same) ∙ there)
@@ -103,10 +117,10 @@ kept_before entries past c s commit carried is there keeps r one =
     is_eq : (m n : ℕ) → nat_eq m n ≡ true → n ≡ m
     is_eq m n e = grind (arith, nat_tests)
 
-    by : (o : Option ℕ) → lookup (nat_eq (key_of r)) entries ≡ o → is_some (lookup (nat_eq (key_of r)) entries) ≡ true → lookup (nat_eq (key_of r)) entries ≡ first_position (repeats (Some r)) 1 (past ++ c ∷ [])
+    by : (o : Option ℕ) → lookup (nat_eq (key_of r)) entries ≡ o → is_some (lookup (nat_eq (key_of r)) entries) ≡ true → lookup (nat_eq (key_of r)) entries ≡ done_at done (past ++ c ∷ []) (Some r)
     by None e h = absurd (let bad : false ≡ true = ap is_some (sym e) ∙ h in cc)
     by (Some x) e h =
-        e ∙ sym (first_one_more (repeats (Some r)) 1 past c ∙ ap (λ (o : Option ℕ). or_else o (cond (repeats (Some r) c) (just (1 + length past)) None)) (sym (keeps r one) ∙ e))
+        e ∙ sym (done_one_more done past c (Some r) ∙ ap (λ (o : Option ℕ). or_else o (cond (repeats (Some r) c) (just (1 + length past)) None)) (sym (keeps r one) ∙ e))
 
 lookup_last : (test : ℕ → Bool) (entries : List (ℕ × ℕ)) (k v : ℕ) → lookup test (entries ++ (k, v) ∷ []) ≡ or_else (lookup test entries) (cond (test k) (just v) None)
 lookup_last test [] k v = refl
@@ -116,16 +130,16 @@ lookup_last test (e ∷ entries) k v = elim (test e.0) as (λ b. cond b (just e.
 ]
 
 -- where it isn't, it comes last
-pub kept_last : (entries : List (ℕ × ℕ)) (past : List CertifiedItem) (c : CertifiedItem) (s : RequestId) (position : ℕ) → length past + 1 ≡ position → is_commit c.verdict ≡ true → c.request ≡ Some s → IsRequest s → KeepsRequests entries past → KeepsRequests (entries ++ (key_of s, position) ∷ []) (past ++ c ∷ [])
-kept_last entries past c s position at commit carried is keeps r one =
+pub kept_last : (entries : List (ℕ × ℕ)) (done : List DoneRequest) (past : List CertifiedItem) (c : CertifiedItem) (s : RequestId) (position : ℕ) → length past + 1 ≡ position → is_commit c.verdict ≡ true → c.request ≡ Some s → IsRequest s → KeepsRequests entries done past → KeepsRequests (entries ++ (key_of s, position) ∷ []) done (past ++ c ∷ [])
+kept_last entries done past c s position at commit carried is keeps r one =
     lookup_last (nat_eq (key_of r)) entries (key_of s) position
     ∙ ap (λ (o : Option ℕ). or_else o (cond (nat_eq (key_of r) (key_of s)) (just position) None)) (keeps r one)
-    ∙ ap (λ b. or_else (first_position (repeats (Some r)) 1 past) (cond b (just position) None)) (sym (committed_repeats c r s commit carried one is))
-    ∙ ap (λ (n : ℕ). or_else (first_position (repeats (Some r)) 1 past) (cond (repeats (Some r) c) (just n) None)) (let same : position ≡ 1 + length past = omega arith in same)
-    ∙ sym (first_one_more (repeats (Some r)) 1 past c)
+    ∙ ap (λ b. or_else (done_at done past (Some r)) (cond b (just position) None)) (sym (committed_repeats c r s commit carried one is))
+    ∙ ap (λ (n : ℕ). or_else (done_at done past (Some r)) (cond (repeats (Some r) c) (just n) None)) (let same : position ≡ 1 + length past = omega arith in same)
+    ∙ sym (done_one_more done past c (Some r))
 
 -- no request is repeated
-pub never_repeated : (n : ℕ) (past : List CertifiedItem) → first_position (repeats None) n past ≡ None
+never_repeated : (n : ℕ) (past : List CertifiedItem) → first_position (repeats None) n past ≡ None
 unfolding first_position
 never_repeated n [] = refl
 never_repeated n (c ∷ past) = ap (λ b. cond b (just n) (first_position (repeats None) (n + 1) past)) (by (is_commit c.verdict)) ∙ never_repeated (n + 1) past
@@ -134,7 +148,16 @@ never_repeated n (c ∷ past) = ap (λ b. cond b (just n) (first_position (repea
     by true = refl
     by false = refl
 
-pub no_keys : KeepsRequests [] []
+none_done : (done : List DoneRequest) → done_under done None ≡ None
+none_done [] = refl
+none_done (d ∷ done) = none_done done
+
+pub done_by_none : (done : List DoneRequest) (past : List CertifiedItem) → done_at done past None ≡ None
+done_by_none done past =
+    ap (λ (o : Option DoneRequest). cond (is_some o) (just 0) (first_position (repeats None) 1 past)) (none_done done)
+    ∙ never_repeated 1 past
+
+pub no_keys : KeepsRequests [] [] []
 unfolding first_position
 no_keys r is = refl
 

@@ -10,7 +10,7 @@ use Rattle.schema.specs.declared.look.Look.{Look}
 use Rattle.schema.specs.Rows.{Key, Writes, shares_key}
 use Rattle.sig_lanes.specs.Signature.{bit_of, looks_set_bit, writes_set_bit, shares_bit}
 use Rattle.log_model.specs.declared.verdict.Verdict.TheVariants.{Stale, Repeated}
-use Rattle.log_model.specs.Log.{Call, CertifiedItem, is_commit, conflicts, first_position, first_repeated, unless_repeated, unless_conflict, verdict_after}
+use Rattle.log_model.specs.Log.{Call, DoneRequest, CertifiedItem, is_commit, conflicts, first_position, first_repeated, unless_repeated, unless_conflict, verdict_after}
 use Rattle.certify.specs.Comparisons.{comparisons_from, comparisons_after}
 use Rattle.certify.proofs.ListLemmas.{get_drop}
 use Rattle.certify.specs.declared.search.SearchResult.{SearchResult}
@@ -180,33 +180,33 @@ test_true m n e = grind (arith, nat_tests)
 test_false : (m n : ℕ) → n < m → nat_le m n ≡ false
 test_false m n e = grind (arith, nat_tests)
 
-pub stale : (window count snapshot : ℕ) (past : List CertifiedItem) (call : Call) (looks : List Look) → call.snapshot ≡ snapshot → first_repeated past call ≡ None → count ≡ length past → window < count - snapshot
-    → Stale ≡ verdict_after window past call looks
+pub stale : (window count snapshot : ℕ) (done : List DoneRequest) (past : List CertifiedItem) (call : Call) (looks : List Look) → call.snapshot ≡ snapshot → first_repeated done past call ≡ None → count ≡ length past → window < count - snapshot
+    → Stale ≡ verdict_after window done past call looks
 unfolding verdict_after
-stale window count snapshot past call looks same new is old =
+stale window count snapshot done past call looks same new is old =
     sym (ap (λ (o : Option ℕ). unless_repeated o (cond (nat_le (length past - call.snapshot) window) (unless_conflict (first_position (conflicts looks) (call.snapshot + 1) (drop call.snapshot past))) Stale)) new
     ∙ ap (λ b. cond b (unless_conflict (first_position (conflicts looks) (call.snapshot + 1) (drop call.snapshot past))) Stale) (test_false (length past - call.snapshot) window (omega arith)))
 
-pub none_compared : (window count snapshot : ℕ) (past : List CertifiedItem) (call : Call) (looks : List Look) → call.snapshot ≡ snapshot → first_repeated past call ≡ None → count ≡ length past → window < count - snapshot
-    → 0 ≡ length (comparisons_after window past call looks)
+pub none_compared : (window count snapshot : ℕ) (done : List DoneRequest) (past : List CertifiedItem) (call : Call) (looks : List Look) → call.snapshot ≡ snapshot → first_repeated done past call ≡ None → count ≡ length past → window < count - snapshot
+    → 0 ≡ length (comparisons_after window done past call looks)
 unfolding comparisons_after
-none_compared window count snapshot past call looks same new is old =
+none_compared window count snapshot done past call looks same new is old =
     sym (ap (λ (o : Option ℕ). length (cond (is_some o) [] (cond (nat_le (length past - call.snapshot) window) (comparisons_from looks (call.snapshot + 1) (drop call.snapshot past)) []))) new
     ∙ ap (λ b. length (cond b (comparisons_from looks (call.snapshot + 1) (drop call.snapshot past)) [])) (test_false (length past - call.snapshot) window (omega arith)))
 
 -- of a call that is neither repeated nor stale
-pub verdict_of_search : (window snapshot : ℕ) (past : List CertifiedItem) (call : Call) (looks : List Look) → call.snapshot ≡ snapshot → first_repeated past call ≡ None → length past - snapshot ≤ window
-    → unless_conflict (result_of looks snapshot (drop snapshot past)).conflict ≡ verdict_after window past call looks
+pub verdict_of_search : (window snapshot : ℕ) (done : List DoneRequest) (past : List CertifiedItem) (call : Call) (looks : List Look) → call.snapshot ≡ snapshot → first_repeated done past call ≡ None → length past - snapshot ≤ window
+    → unless_conflict (result_of looks snapshot (drop snapshot past)).conflict ≡ verdict_after window done past call looks
 unfolding verdict_after
-verdict_of_search window snapshot past call looks same new near =
+verdict_of_search window snapshot done past call looks same new near =
     ap (λ (n : ℕ). unless_conflict (first_position (conflicts looks) (n + 1) (drop n past))) (sym same)
     ∙ sym (ap (λ (o : Option ℕ). unless_repeated o (cond (nat_le (length past - call.snapshot) window) (unless_conflict (first_position (conflicts looks) (call.snapshot + 1) (drop call.snapshot past))) Stale)) new
     ∙ ap (λ b. cond b (unless_conflict (first_position (conflicts looks) (call.snapshot + 1) (drop call.snapshot past))) Stale) (test_true (length past - call.snapshot) window (omega arith)))
 
-pub compared_of_search : (window snapshot : ℕ) (past : List CertifiedItem) (call : Call) (looks : List Look) → call.snapshot ≡ snapshot → first_repeated past call ≡ None → length past - snapshot ≤ window
-    → (result_of looks snapshot (drop snapshot past)).compared ≡ length (comparisons_after window past call looks)
+pub compared_of_search : (window snapshot : ℕ) (done : List DoneRequest) (past : List CertifiedItem) (call : Call) (looks : List Look) → call.snapshot ≡ snapshot → first_repeated done past call ≡ None → length past - snapshot ≤ window
+    → (result_of looks snapshot (drop snapshot past)).compared ≡ length (comparisons_after window done past call looks)
 unfolding comparisons_after
-compared_of_search window snapshot past call looks same new near =
+compared_of_search window snapshot done past call looks same new near =
     ap (λ (n : ℕ). length (comparisons_from looks (n + 1) (drop n past))) (sym same)
     ∙ sym (ap (λ (o : Option ℕ). length (cond (is_some o) [] (cond (nat_le (length past - call.snapshot) window) (comparisons_from looks (call.snapshot + 1) (drop call.snapshot past)) []))) new
     ∙ ap (λ b. length (cond b (comparisons_from looks (call.snapshot + 1) (drop call.snapshot past)) [])) (test_true (length past - call.snapshot) window (omega arith)))
@@ -228,13 +228,13 @@ result_is m looks past snapshot result few shared bits stands enough le near sea
 
 -- ---- a call that repeats one
 
-pub repeated_verdict : (window : ℕ) (past : List CertifiedItem) (call : Call) (looks : List Look) (position : ℕ) → first_repeated past call ≡ Some position → Repeated position ≡ verdict_after window past call looks
+pub repeated_verdict : (window : ℕ) (done : List DoneRequest) (past : List CertifiedItem) (call : Call) (looks : List Look) (position : ℕ) → first_repeated done past call ≡ Some position → Repeated position ≡ verdict_after window done past call looks
 unfolding verdict_after
-repeated_verdict window past call looks position e = sym (ap (λ (o : Option ℕ). unless_repeated o (cond (nat_le (length past - call.snapshot) window) (unless_conflict (first_position (conflicts looks) (call.snapshot + 1) (drop call.snapshot past))) Stale)) e)
+repeated_verdict window done past call looks position e = sym (ap (λ (o : Option ℕ). unless_repeated o (cond (nat_le (length past - call.snapshot) window) (unless_conflict (first_position (conflicts looks) (call.snapshot + 1) (drop call.snapshot past))) Stale)) e)
 
-pub none_compared_again : (window : ℕ) (past : List CertifiedItem) (call : Call) (looks : List Look) (position : ℕ) → first_repeated past call ≡ Some position → 0 ≡ length (comparisons_after window past call looks)
+pub none_compared_again : (window : ℕ) (done : List DoneRequest) (past : List CertifiedItem) (call : Call) (looks : List Look) (position : ℕ) → first_repeated done past call ≡ Some position → 0 ≡ length (comparisons_after window done past call looks)
 unfolding comparisons_after
-none_compared_again window past call looks position e = sym (ap (λ (o : Option ℕ). length (cond (is_some o) [] (cond (nat_le (length past - call.snapshot) window) (comparisons_from looks (call.snapshot + 1) (drop call.snapshot past)) []))) e)
+none_compared_again window done past call looks position e = sym (ap (λ (o : Option ℕ). length (cond (is_some o) [] (cond (nat_le (length past - call.snapshot) window) (comparisons_from looks (call.snapshot + 1) (drop call.snapshot past)) []))) e)
 
 pub none_left_of : (o : Option ℕ) → ((x : ℕ) → o ≡ Some x → ⊥) → o ≡ None
 none_left_of None h = refl

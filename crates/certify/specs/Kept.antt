@@ -7,7 +7,7 @@ use Rattle.schema.specs.Rows.{Writes, shares_key}
 use Rattle.sig_lanes.specs.Signature.{writes_set_bit}
 use Rattle.sig_lanes.specs.Bits.{has_bit, signature_at}
 use Rattle.log_model.specs.declared.request.RequestId.{RequestId}
-use Rattle.log_model.specs.Log.{CertifiedItem, is_commit, repeats, first_position}
+use Rattle.log_model.specs.Log.{DoneRequest, CertifiedItem, is_commit, done_at}
 
 -- of one item, ready to be kept: its request, its signature, and writes of its keys
 pub record PreparedCall : Type 0 where
@@ -70,21 +70,21 @@ pub record IsRequest (request : RequestId) : Type 0 where
   pub session : request.session < 2 ^ 32
   pub sequence : request.sequence < 2 ^ 32
 
--- under each request the position of the first committed call that carries it, for good
-abbrev pub KeepsRequests : List (ℕ × ℕ) → List CertifiedItem → Type 0
-KeepsRequests entries past = (request : RequestId) → IsRequest request → lookup (nat_eq (key_of request)) entries ≡ first_position (repeats (Some request)) 1 past
+-- under each request the position at which it was done, for good
+abbrev pub KeepsRequests : List (ℕ × ℕ) → List DoneRequest → List CertifiedItem → Type 0
+KeepsRequests entries done past = (request : RequestId) → IsRequest request → lookup (nat_eq (key_of request)) entries ≡ done_at done past (Some request)
 
--- with the requests of all that committed
+-- with the requests that were done
 pub record Memory : Type 0 where
   pub window : ℕ
   pub count : ℕ
   pub ring : Ring
   pub requests : List (ℕ × ℕ)
 
-pub record IsMemoryOf (m : Memory) (past : List CertifiedItem) : Type 0 where
+pub record IsMemoryOf (m : Memory) (done : List DoneRequest) (past : List CertifiedItem) : Type 0 where
   pub count : m.count ≡ length past
   pub kept : Keeps m.ring past
-  pub requests : KeepsRequests m.requests past
+  pub requests : KeepsRequests m.requests done past
 
 -- what is kept, how many exact comparisons the last verdict made, and for how many requests more there is room
 pub record CertifierState : Type 0 where

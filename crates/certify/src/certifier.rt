@@ -1,7 +1,7 @@
 //! Verdicts on calls in the order of their delivery.
 
 ghost use Rattle.std.specs.Prelude.{◌≡◌, ◌+◌, ◌<◌, ◌≤◌, ◌^◌, ◌++◌, [], ◌∷◌, List, length, IfOk, OnOk, IsSome, None};
-ghost use Rattle.log_model.specs.Log.{Call, CertifiedItem, verdict_after, first_position, repeats};
+ghost use Rattle.log_model.specs.Log.{Call, CertifiedItem, DoneRequest, done_at, verdict_after};
 ghost use Rattle.certify.specs.Comparisons.{comparisons_after};
 ghost use Rattle.std.specs.FinMap.{empty};
 ghost use Rattle.certify.specs.Kept.{IsPreparedOf, IsMemoryOf};
@@ -76,7 +76,7 @@ impl<A: Allocator + Copy> Model for Certifier<A> {
 impl<A: Allocator + Copy> Certifier<A> {
     /// A certifier that has kept nothing. A call is stale where more items than the window came since its snapshot.
     pub fn new(alloc: A, window: u32) -> Result<Certifier<A>, AllocError>
-        ensures stands { IfOk result (λ c. IsMemoryOf c.memory []) }
+        ensures stands { IfOk result (λ c. IsMemoryOf c.memory [] []) }
         ensures window { IfOk result (λ c. c.memory.window ≡ window) }
         ensures compared { IfOk result (λ c. c.compared ≡ 0) }
     {
@@ -102,13 +102,13 @@ impl<A: Allocator + Copy> Certifier<A> {
     ) -> Verdict
         requires next { position ≡ self.old.memory.count + 1 }
         requires snapshot { call.now.snapshot < position }
-        ensures verdict { (past : List CertifiedItem) (c : Call) → IsMemoryOf self.old.memory past
+        ensures verdict { (done : List DoneRequest) (past : List CertifiedItem) (c : Call) → IsMemoryOf self.old.memory done past
             → c.request ≡ call.now.request → c.snapshot ≡ call.now.snapshot
-            → result ≡ verdict_after self.old.memory.window past c call.now.reads.now }
-        ensures compared { (past : List CertifiedItem) (c : Call) → IsMemoryOf self.old.memory past
+            → result ≡ verdict_after self.old.memory.window done past c call.now.reads.now }
+        ensures compared { (done : List DoneRequest) (past : List CertifiedItem) (c : Call) → IsMemoryOf self.old.memory done past
             → c.request ≡ call.now.request → c.snapshot ≡ call.now.snapshot
             → self.new.compared ≡ length
-            (comparisons_after self.old.memory.window past c call.now.reads.now) }
+            (comparisons_after self.old.memory.window done past c call.now.reads.now) }
         ensures memory { self.new.memory ≡ self.old.memory }
     {
         if let Some(repeated) = repeated_in(&self.requests, call.request) {
@@ -134,10 +134,10 @@ impl<A: Allocator + Copy> Certifier<A> {
         self.compared
     }
 
-    /// The position of the committed call that carries a request, however long ago.
+    /// The position at which a request was done, however long ago. A request that was done before the log is at 0.
     pub fn repeated(&self, request: Option<RequestId>) -> Option<u32>
-        ensures { (past : List CertifiedItem) → IsMemoryOf self.now.memory past
-            → result ≡ first_position (repeats request) 1 past }
+        ensures { (done : List DoneRequest) (past : List CertifiedItem) → IsMemoryOf self.now.memory done past
+            → result ≡ done_at done past request }
     {
         repeated_in(&self.requests, request)
     }
@@ -171,9 +171,10 @@ impl<A: Allocator + Copy> Certifier<A> {
     pub fn keep(&mut self, position: u32, verdict: Verdict, prepared: Prepared<A>)
         requires next { position ≡ self.old.memory.count + 1 }
         requires room { IsSome prepared.request → 0 < self.old.room }
-        ensures stands { (past : List CertifiedItem) (c : CertifiedItem) → IsMemoryOf self.old.memory past
+        ensures stands { (done : List DoneRequest) (past : List CertifiedItem) (c : CertifiedItem)
+            → IsMemoryOf self.old.memory done past
             → c.verdict ≡ verdict → c.request ≡ prepared.request → IsPreparedOf prepared c.writes
-            → IsMemoryOf self.new.memory (past ++ c ∷ []) }
+            → IsMemoryOf self.new.memory done (past ++ c ∷ []) }
         ensures window { self.new.memory.window ≡ self.old.memory.window }
         ensures count { self.new.memory.count ≡ position }
         ensures compared { self.new.compared ≡ self.old.compared }

@@ -1,8 +1,8 @@
-//! The requests of committed calls, each with the position of its call.
+//! The requests that were done, each with its position.
 
 ghost use Rattle.std.specs.Prelude.{◌≡◌, ◌+◌, ◌<◌, ◌^◌, [], ◌∷◌, ◌++◌, List, length, IsSome};
 ghost use Rattle.indexmap.specs.IndexMap.{spare};
-ghost use Rattle.log_model.specs.Log.{CertifiedItem, is_commit, repeats, first_position};
+ghost use Rattle.log_model.specs.Log.{DoneRequest, CertifiedItem, is_commit, done_at};
 ghost use Rattle.certify.specs.Kept.{key_of, KeepsRequests};
 
 use crate::ring::is_commit;
@@ -11,7 +11,7 @@ use log_model::{RequestId, Verdict};
 use std::alloc::Allocator;
 use std::hash::{BuildHasherDefault, FoldHasher};
 
-/// The map from a request, as one number, to the position of the committed call that carries it.
+/// The map from a request, as one number, to the position at which it was done.
 pub(crate) type Requests<A> = IndexMap<u64, u32, BuildHasherDefault<FoldHasher>, A>;
 
 /// Returns a request as one number.
@@ -24,13 +24,13 @@ fn key_of(request: RequestId) -> u64
     u64::from(request.session) * 4_294_967_296 + u64::from(request.sequence)
 }
 
-/// Returns the position of the committed call that carries a request.
+/// Returns the position at which a request was done.
 pub(crate) fn repeated_in<A: Allocator>(
     requests: &Requests<A>,
     request: Option<RequestId>,
 ) -> Option<u32>
-    ensures { (past : List CertifiedItem) → KeepsRequests requests.now.entries past
-        → result ≡ first_position (repeats request) 1 past }
+    ensures { (done : List DoneRequest) (past : List CertifiedItem) → KeepsRequests requests.now.entries done past
+        → result ≡ done_at done past request }
 {
     let Some(request) = request else {
         return None;
@@ -49,9 +49,9 @@ pub(crate) fn keep_request<A: Allocator>(
     position: u32,
 )
     requires room { IsSome request → 0 < spare requests.old }
-    ensures { (past : List CertifiedItem) (c : CertifiedItem) → length past + 1 ≡ position
-        → c.verdict ≡ verdict → c.request ≡ request → KeepsRequests requests.old.entries past
-        → KeepsRequests requests.new.entries (past ++ c ∷ []) }
+    ensures { (done : List DoneRequest) (past : List CertifiedItem) (c : CertifiedItem) → length past + 1 ≡ position
+        → c.verdict ≡ verdict → c.request ≡ request → KeepsRequests requests.old.entries done past
+        → KeepsRequests requests.new.entries done (past ++ c ∷ []) }
 {
     let Some(carried) = request else {
         return;

@@ -5,7 +5,7 @@ ghost use Rattle.std.specs.Prelude.{length, None};
 ghost use Rattle.std.specs.Int.{bit_at};
 ghost use Rattle.sig_lanes.specs.Signature.{looks_set_bit};
 ghost use Rattle.sig_lanes.specs.Bits.{has_bit};
-ghost use Rattle.log_model.specs.Log.{Call, CertifiedItem, first_repeated, verdict_after};
+ghost use Rattle.log_model.specs.Log.{Call, DoneRequest, CertifiedItem, first_repeated, verdict_after};
 ghost use Rattle.certify.specs.Comparisons.{comparisons_after};
 ghost use Rattle.certify.specs.Kept.{HasPlaces, IsMemoryOfLatest};
 ghost use Rattle.certify.specs.Search.{search, lane_met, kept_shares, Meets};
@@ -171,22 +171,22 @@ pub fn find_verdict<A: Allocator + Copy, B: Allocator>(
     requires places { HasPlaces (record { blocks = blocks.now; writes = kept.now }) }
     requires enough { window ≤ length kept.now }
     requires snapshot { snapshot ≤ count }
-    ensures verdict { (past : List CertifiedItem) (call : Call) → call.snapshot ≡ snapshot
-        → first_repeated past call ≡ None
+    ensures verdict { (done : List DoneRequest) (past : List CertifiedItem) (call : Call) → call.snapshot ≡ snapshot
+        → first_repeated done past call ≡ None
         → IsMemoryOfLatest (record {
           window = window;
           count = count;
           ring = record { blocks = blocks.now; writes = kept.now };
         }) past
-        → result.0 ≡ verdict_after window past call reads.now }
-    ensures compared { (past : List CertifiedItem) (call : Call) → call.snapshot ≡ snapshot
-        → first_repeated past call ≡ None
+        → result.0 ≡ verdict_after window done past call reads.now }
+    ensures compared { (done : List DoneRequest) (past : List CertifiedItem) (call : Call) → call.snapshot ≡ snapshot
+        → first_repeated done past call ≡ None
         → IsMemoryOfLatest (record {
           window = window;
           count = count;
           ring = record { blocks = blocks.now; writes = kept.now };
         }) past
-        → result.1 ≡ length (comparisons_after window past call reads.now) }
+        → result.1 ≡ length (comparisons_after window done past call reads.now) }
 {
     // Laws:
     shared_bits_are_of_both();

@@ -8,7 +8,7 @@ use Rattle.bpf_semantics.specs.Run.{Run}
 use Rattle.log_model.specs.declared.verdict.Verdict.{Verdict}
 use Rattle.log_model.specs.declared.verdict.Verdict.TheVariants.{Commit, Conflict, Stale, Repeated, Taken}
 use Rattle.log_model.specs.Log.{Setting, Log, IsLog, verdict_after, if_commits, history, rows_after, run_in, verdict_of, Catalogue, CallItem, CertifiedItem, certified_addition, procedures_after, run_on}
-use Rattle.log_model.specs.Fit.{HasSafeProcedures, AreItems}
+use Rattle.log_model.specs.Fit.{BeginsSafely, AreItems}
 use Rattle.log_model.specs.Entries.{Entry, CarriesRun, CarryRuns, ExecutedCall, CallEntry, AdditionEntry, item_of, items_of, IsCarried, procedures_with}
 use Rattle.dsm_model.specs.Contents.{ReplicaContents, IsContentsOf, with_delivered, first_contents, certified_next, rows_with}
 use Rattle.log_model.proofs.RunLemmas.{just}
@@ -37,9 +37,9 @@ certified_there : (w : Setting) (log : Log) (copy : ReplicaContents) (e : Entry)
     → slice_get (history w log).certified (length copy.certified) ≡ just (certified_next w copy e)
 certified_there w log copy (CallEntry e) below is carries at =
     certified_is w log (length copy.certified) e.call below at
-    ∙ ap (λ (l : List CertifiedItem). just (record { request = e.call.request; writes = (run_in w log e.call).writes; verdict = verdict_after w.window l e.call (run_in w log e.call).looks })) (sym is.certified)
-    ∙ ap (λ l. just (record { request = e.call.request; writes = (run_in w log e.call).writes; verdict = verdict_after w.window copy.certified e.call l })) (sym carries.looks)
-    ∙ ap (λ x. just (record { request = e.call.request; writes = x; verdict = verdict_after w.window copy.certified e.call e.looks })) (sym carries.writes)
+    ∙ ap (λ (l : List CertifiedItem). just (record { request = e.call.request; writes = (run_in w log e.call).writes; verdict = verdict_after w.window w.beginning.requests l e.call (run_in w log e.call).looks })) (sym is.certified)
+    ∙ ap (λ l. just (record { request = e.call.request; writes = (run_in w log e.call).writes; verdict = verdict_after w.window w.beginning.requests copy.certified e.call l })) (sym carries.looks)
+    ∙ ap (λ x. just (record { request = e.call.request; writes = x; verdict = verdict_after w.window w.beginning.requests copy.certified e.call e.looks })) (sym carries.writes)
 certified_there w log copy (AdditionEntry p) below is carries at =
     addition_is w log (length copy.certified) p below at
     ∙ ap (λ (ps : Catalogue). just (certified_addition ps p)) (sym is.procedures)
@@ -49,7 +49,7 @@ pub verdict_next : (w : Setting) (log : Log) (copy : ReplicaContents) (e : Entry
 verdict_next w log copy e below is carries at = ap (option_map (λ (c : CertifiedItem). c.verdict)) (certified_there w log copy e below is carries at)
 
 -- the effect on the rows now is that of the shipped writes
-installs : (w : Setting) (log : Log) (d : ℕ) (e : ExecutedCall) (v : Verdict) → HasSafeProcedures w → IsLog log → AreItems w log → CarriesRun w log e → slice_get log d ≡ just (CallItem e.call) → verdict_of w log (suc d) ≡ just v
+installs : (w : Setting) (log : Log) (d : ℕ) (e : ExecutedCall) (v : Verdict) → BeginsSafely w → IsLog log → AreItems w log → CarriesRun w log e → slice_get log d ≡ just (CallItem e.call) → verdict_of w log (suc d) ≡ just v
     → if_commits v (after_writes e.writes (rows_after w log d)) (rows_after w log d) ≡ if_commits v (run_on w log e.call (rows_after w log d)).effect (rows_after w log d)
 installs w log d e Commit safe below items carries at is =
     ap (λ (x : Writes). after_writes x (rows_after w log d)) carries.writes ∙ sym (ap (λ (r : Run). r.effect) (serial_run w log d e.call safe below items at is))
@@ -58,13 +58,13 @@ installs w log d e Stale safe below items carries at is = refl
 installs w log d e (Repeated n) safe below items carries at is = refl
 installs w log d e (Taken n) safe below items carries at is = refl
 
-rows_there : (w : Setting) (log : Log) (copy : ReplicaContents) (e : Entry) → HasSafeProcedures w → IsLog log → AreItems w log → IsContentsOf w log copy → IsCarried w log e → slice_get log (length copy.certified) ≡ just (item_of e)
+rows_there : (w : Setting) (log : Log) (copy : ReplicaContents) (e : Entry) → BeginsSafely w → IsLog log → AreItems w log → IsContentsOf w log copy → IsCarried w log e → slice_get log (length copy.certified) ≡ just (item_of e)
     → rows_with copy.rows e (certified_next w copy e) ≡ rows_after w log (suc (length copy.certified))
 rows_there w log copy (CallEntry e) safe below items is carries at =
     let verdict = verdict_next w log copy (CallEntry e) below is carries at in
-    ap (λ (rows : Rows). if_commits (verdict_after w.window copy.certified e.call e.looks) (after_writes e.writes rows) rows) is.rows
-    ∙ installs w log (length copy.certified) e (verdict_after w.window copy.certified e.call e.looks) safe below items carries at verdict
-    ∙ sym (rows_next w log (length copy.certified) e.call (verdict_after w.window copy.certified e.call e.looks) below at verdict)
+    ap (λ (rows : Rows). if_commits (verdict_after w.window w.beginning.requests copy.certified e.call e.looks) (after_writes e.writes rows) rows) is.rows
+    ∙ installs w log (length copy.certified) e (verdict_after w.window w.beginning.requests copy.certified e.call e.looks) safe below items carries at verdict
+    ∙ sym (rows_next w log (length copy.certified) e.call (verdict_after w.window w.beginning.requests copy.certified e.call e.looks) below at verdict)
 rows_there w log copy (AdditionEntry p) safe below items is carries at = is.rows ∙ sym (rows_after_addition w log (length copy.certified) p below at)
 
 procedures_there : (w : Setting) (log : Log) (copy : ReplicaContents) (e : Entry) → IsLog log → IsContentsOf w log copy → IsCarried w log e → slice_get log (length copy.certified) ≡ just (item_of e)
@@ -78,7 +78,7 @@ procedures_there w log copy (AdditionEntry p) below is carries at =
 pub count_delivered : (w : Setting) (copy : ReplicaContents) (e : Entry) → length (with_delivered w copy e).certified ≡ suc (length copy.certified)
 count_delivered w copy e = length-append copy.certified _ ∙ (let same : length copy.certified + 1 ≡ suc (length copy.certified) = omega arith in same)
 
-pub delivered_next : (w : Setting) (log : Log) (copy : ReplicaContents) (e : Entry) → HasSafeProcedures w → IsLog log → AreItems w log → IsContentsOf w log copy → IsCarried w log e → slice_get log (length copy.certified) ≡ just (item_of e)
+pub delivered_next : (w : Setting) (log : Log) (copy : ReplicaContents) (e : Entry) → BeginsSafely w → IsLog log → AreItems w log → IsContentsOf w log copy → IsCarried w log e → slice_get log (length copy.certified) ≡ just (item_of e)
     → IsContentsOf w log (with_delivered w copy e)
 delivered_next w log copy e safe below items is carries at = record {
   certified =
@@ -99,7 +99,7 @@ get_here : {X : Type 0} (xs : List X) (x : X) (ys : List X) → slice_get (xs ++
 get_here [] x ys = refl
 get_here (y ∷ xs) x ys = get_here xs x ys
 
-delivered_all : (w : Setting) (entries done left : List Entry) (copy : ReplicaContents) → HasSafeProcedures w → IsLog (items_of entries) → AreItems w (items_of entries) → CarryRuns w entries
+delivered_all : (w : Setting) (entries done left : List Entry) (copy : ReplicaContents) → BeginsSafely w → IsLog (items_of entries) → AreItems w (items_of entries) → CarryRuns w entries
     → entries ≡ done ++ left → length copy.certified ≡ length done → IsContentsOf w (items_of entries) copy → Rebuilt w (items_of entries) (fold (with_delivered w) copy left) (length entries)
 delivered_all w entries done [] copy safe below calls carry split count is =
     let all : length entries ≡ length done + 0 = ap length split ∙ length-append done [] in
@@ -114,7 +114,7 @@ delivered_all w entries done (e ∷ left) copy safe below calls carry split coun
 pub first_is : (w : Setting) (log : Log) → IsContentsOf w log (first_contents w)
 first_is w log = record { certified = refl; rows = sym (rows_first w log); procedures = sym (procedures_first w log) }
 
-pub rebuilt : (w : Setting) (entries : List Entry) → HasSafeProcedures w → IsLog (items_of entries) → AreItems w (items_of entries) → CarryRuns w entries → Rebuilt w (items_of entries) (fold (with_delivered w) (first_contents w) entries) (length entries)
+pub rebuilt : (w : Setting) (entries : List Entry) → BeginsSafely w → IsLog (items_of entries) → AreItems w (items_of entries) → CarryRuns w entries → Rebuilt w (items_of entries) (fold (with_delivered w) (first_contents w) entries) (length entries)
 rebuilt w entries safe below calls carry = delivered_all w entries [] entries (first_contents w) safe below calls carry refl refl (first_is w (items_of entries))
 
 -- ---- a log that grows
@@ -129,8 +129,8 @@ copy_grown w log more copy le is =
       procedures = is.procedures ∙ sym (procedures_grown w log more (length copy.certified) le);
     }
 
-pub rebuilt_copy : (w : Setting) (entries : List Entry) → HasSafeProcedures w → IsLog (items_of entries) → AreItems w (items_of entries) → CarryRuns w entries → IsContentsOf w (items_of entries) (fold (with_delivered w) (first_contents w) entries)
+pub rebuilt_copy : (w : Setting) (entries : List Entry) → BeginsSafely w → IsLog (items_of entries) → AreItems w (items_of entries) → CarryRuns w entries → IsContentsOf w (items_of entries) (fold (with_delivered w) (first_contents w) entries)
 rebuilt_copy w entries safe below calls carry = (rebuilt w entries safe below calls carry).is
 
-pub rebuilt_position : (w : Setting) (entries : List Entry) → HasSafeProcedures w → IsLog (items_of entries) → AreItems w (items_of entries) → CarryRuns w entries → length (fold (with_delivered w) (first_contents w) entries).certified ≡ length entries
+pub rebuilt_position : (w : Setting) (entries : List Entry) → BeginsSafely w → IsLog (items_of entries) → AreItems w (items_of entries) → CarryRuns w entries → length (fold (with_delivered w) (first_contents w) entries).certified ≡ length entries
 rebuilt_position w entries safe below calls carry = (rebuilt w entries safe below calls carry).position

@@ -5,7 +5,7 @@ use Rattle.log_model.specs.declared.verdict.Verdict.TheVariants.{Commit}
 use Rattle.dsm_model.specs.declared.outcome.Outcome.{Outcome}
 use Rattle.dsm_model.specs.declared.outcome.Outcome.TheVariants.{Exit, Ordered}
 use Rattle.log_model.specs.Log.{Setting, Call, Item, CallItem, Log, run_in, verdict_of}
-use Rattle.log_model.specs.Fit.{HasSafeProcedures}
+use Rattle.log_model.specs.Fit.{BeginsSafely}
 use Rattle.dsm_model.specs.World.{World, Step, Turn, Order, numbered, flatten, open_call, IsStep, AreSteps}
 use Rattle.log_model.specs.OpenCall.{OpenCall}
 use Rattle.dsm_model.specs.Sound.{IsWorld, IsSerialReply, AreGiven}
@@ -176,7 +176,7 @@ placed_later w before (step ∷ steps) (outcome ∷ outcomes) after c zero (suc 
 placed_later w before (step ∷ steps) (outcome ∷ outcomes) after c (suc i) (suc j) d reply bytes is h a b e f lt =
     placed_later w h.0 steps outcomes after c i j d reply bytes.1 (step_keeps w before step outcome h.0 bytes.0 h.1 is) h.2 a b e f (omega arith)
 
-pub serial_reply : (w : Setting) (before : World) (steps : List Step) (outcomes : List Outcome) (after : World) (c i j d reply : ℕ) → HasSafeProcedures w → AreGiven w steps outcomes → IsWorld w before → AreSteps w before steps outcomes after
+pub serial_reply : (w : Setting) (before : World) (steps : List Step) (outcomes : List Outcome) (after : World) (c i j d reply : ℕ) → BeginsSafely w → AreGiven w steps outcomes → IsWorld w before → AreSteps w before steps outcomes after
     → slice_get steps i ≡ Some (Turn c) → slice_get outcomes i ≡ Some (Exit reply) → slice_get steps j ≡ Some (Order c) → slice_get outcomes j ≡ Some (Ordered d) → i < j → verdict_of w after.log d ≡ Some Commit → IsSerialReply w after.log d reply
 serial_reply w before steps outcomes after c i j d reply safe bytes is h a b e f lt commit =
     let p = placed_later w before steps outcomes after c i j d reply bytes is h a b e f lt in

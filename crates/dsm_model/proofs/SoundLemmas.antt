@@ -6,7 +6,7 @@ use Rattle.bpf_semantics.specs.Step.{Going, Ended, Stuck}
 use Rattle.bpf_semantics.specs.Path.{longest_path}
 use Rattle.bpf_semantics.proofs.MomentLemmas.{before_its_length, from_its_length_on}
 use Rattle.log_model.specs.Log.{Setting, Call, Log, rows_after, run_in, moment_at, procedures_after}
-use Rattle.log_model.specs.Fit.{HasSafeProcedures, IsCall}
+use Rattle.log_model.specs.Fit.{BeginsSafely, IsCall}
 use Rattle.dsm_model.specs.World.{World, open_call}
 use Rattle.log_model.specs.OpenCall.{OpenCall}
 use Rattle.dsm_model.specs.Sound.{IsOpenCall, IsWorld, IsSound}
@@ -16,7 +16,7 @@ use Rattle.log_model.proofs.NextLemmas.{at_procedure}
 use Rattle.dsm_model.proofs.WorldLemmas.{begun_within}
 
 -- what is known of the run of an open call
-pub open_run : (w : Setting) (world : World) (o : OpenCall) → HasSafeProcedures w → IsWorld w world → (one : IsOpenCall w world o) → HasRun w.tables (procedures_after w world.log o.call.snapshot) o.call (rows_after w world.log o.call.snapshot) one.is_call
+pub open_run : (w : Setting) (world : World) (o : OpenCall) → BeginsSafely w → IsWorld w world → (one : IsOpenCall w world o) → HasRun w.tables (procedures_after w world.log o.call.snapshot) o.call (rows_after w world.log o.call.snapshot) one.is_call
 open_run w world o safe is one = has_run w.tables (procedures_after w world.log o.call.snapshot) o.call (rows_after w world.log o.call.snapshot) (procedures_safe w world.log o.call.snapshot safe is.log is.items (begun_within w world o is one)) one.is_call (rows_fit w world.log o.call.snapshot safe is.log is.items (begun_within w world o is one))
 
 ended : (w : Setting) (log : Log) (call : Call) (c : IsCall w log call) (k : ℕ) → HasRun w.tables (procedures_after w log call.snapshot) call (rows_after w log call.snapshot) c → (run_in w log call).steps ≤ k → (s : State) × (moment_at w log call k ≡ Ended (run_in w log call).reply s)
@@ -45,7 +45,7 @@ so_far w log call c k has le = elim (cases_lt k (run_in w log call).steps) [
       inr (end.0, end.1, omega arith)
 ]
 
-pub sound : (w : Setting) (world : World) (o : OpenCall) → HasSafeProcedures w → IsWorld w world → IsOpenCall w world o → IsSound w world.log o
+pub sound : (w : Setting) (world : World) (o : OpenCall) → BeginsSafely w → IsWorld w world → IsOpenCall w world o → IsSound w world.log o
 sound w world o safe is one =
     let has = open_run w world o safe is one in
     let end = ended w world.log o.call one.is_call (longest_path one.is_call.procedure.program) has has.short in
@@ -60,5 +60,5 @@ sound w world o safe is one =
       ends = end.1;
     }
 
-pub open_sound : (w : Setting) (world : World) (c : ℕ) (o : OpenCall) → HasSafeProcedures w → IsWorld w world → open_call world c ≡ Some o → IsSound w world.log o
+pub open_sound : (w : Setting) (world : World) (c : ℕ) (o : OpenCall) → BeginsSafely w → IsWorld w world → open_call world c ≡ Some o → IsSound w world.log o
 open_sound w world c o safe is e = sound w world o safe is (is.open_calls c o e)

@@ -10,7 +10,7 @@ use Rattle.dsm_model.specs.declared.outcome.Outcome.{Outcome}
 use Rattle.dsm_model.specs.declared.outcome.Outcome.TheVariants.{Begun, More, Exit, Stale, NoMemory, Ordered, Read, Cancelled, Delivered, Rebuilt, Added, Refused}
 use Rattle.log_model.specs.declared.request.RequestId.{RequestId}
 use Rattle.log_model.specs.Log.{StoredProcedure, Catalogue, Setting, Call, Log, by_number, procedures_after, procedure_of, moment_at, run_in}
-use Rattle.log_model.specs.Fit.{HasSafeProcedures}
+use Rattle.log_model.specs.Fit.{BeginsSafely}
 use Rattle.dsm_model.specs.World.{World, Step, Begin, Turn, Order, Deliver, Rebuild, numbered, with_numbered, flatten, open_call, without_call, with_turns, IsStep, AreSteps, is_answer, Add}
 use Rattle.log_model.specs.OpenCall.{OpenCall}
 use Rattle.dsm_model.specs.Sound.{IsWorld, IsSound, AreGiven}
@@ -450,7 +450,7 @@ record Known (w : Setting) (between after : World) (o : OpenCall) (p : StoredPro
   short : (run_in w between.log o.call).steps ≤ longest_path p.program
   some : 1 ≤ longest_path p.program
 
-known : (w : Setting) (steps : List Step) (outcomes : List Outcome) (after : World) (c : ℕ) (call : Call) (p : StoredProcedure) → HasSafeProcedures w → procedure_of w after.log call ≡ just p → (x : Since w steps outcomes after c call) → Known w x.between after x.o p
+known : (w : Setting) (steps : List Step) (outcomes : List Outcome) (after : World) (c : ℕ) (call : Call) (p : StoredProcedure) → BeginsSafely w → procedure_of w after.log call ≡ just p → (x : Since w steps outcomes after c call) → Known w x.between after x.o p
 known w steps outcomes after c call p safe is x =
     let one = x.world.open_calls c x.o x.stands in
     let near = begun_within w x.between x.o x.world one in
@@ -466,7 +466,7 @@ known w steps outcomes after c call p safe is x =
       some = some_path w x.between.log x.o p there (sound w x.between x.o safe x.world one);
     }
 
-pub reaches_exit : (w : Setting) (before : World) (steps : List Step) (outcomes : List Outcome) (after : World) (c : ℕ) (call : Call) (p : StoredProcedure) → HasSafeProcedures w → AreGiven w steps outcomes → IsWorld w before → AreSteps w before steps outcomes after
+pub reaches_exit : (w : Setting) (before : World) (steps : List Step) (outcomes : List Outcome) (after : World) (c : ℕ) (call : Call) (p : StoredProcedure) → BeginsSafely w → AreGiven w steps outcomes → IsWorld w before → AreSteps w before steps outcomes after
     → IsCallNumbered before steps outcomes c call → procedure_of w after.log call ≡ Some p → longest_path p.program ≤ turns_of c steps outcomes → HasExited c (run_in w after.log call).reply steps outcomes
 unfolding Exits
 reaches_exit w before steps outcomes after c call p safe bytes is h numbered_so there enough =
@@ -479,7 +479,7 @@ reaches_exit w before steps outcomes after c call p safe bytes is h numbered_so 
     (subst (λ (n : ℕ). HasExited c n x.rest x.answers) (sym (ap (λ (r : Run). r.reply) k.run) ∙ ap (λ (y : Call). (run_in w after.log y).reply) x.same)
     (exits w x.between x.rest x.answers after c x.o x.given x.world x.are x.stands (omega arith) (omega arith)))
 
-pub reaches_end : (w : Setting) (before : World) (steps : List Step) (outcomes : List Outcome) (after : World) (c : ℕ) (call : Call) (o : OpenCall) (p : StoredProcedure) → HasSafeProcedures w → AreGiven w steps outcomes → IsWorld w before → AreSteps w before steps outcomes after
+pub reaches_end : (w : Setting) (before : World) (steps : List Step) (outcomes : List Outcome) (after : World) (c : ℕ) (call : Call) (o : OpenCall) (p : StoredProcedure) → BeginsSafely w → AreGiven w steps outcomes → IsWorld w before → AreSteps w before steps outcomes after
     → IsCallNumbered before steps outcomes c call → procedure_of w after.log call ≡ Some p → longest_path p.program ≤ turns_of c steps outcomes → open_call after c ≡ Some o → o.turns ≡ (run_in w after.log o.call).steps
 reaches_end w before steps outcomes after c call o p safe bytes is h numbered_so there enough f =
     let x = since w before steps outcomes after c call bytes is h numbered_so in

@@ -1,11 +1,12 @@
 -- What is known of every world that steps lead to.
-use Rattle.std.specs.Prelude.{◌≡◌, ◌≢◌, ◌⊎◌, ℕ, suc, ◌+◌, ◌<◌, ◌≤◌, List, [], ◌∷◌, length, slice_get, All, Option, Some, None}
+use Rattle.std.specs.Prelude.{◌≡◌, ◌≢◌, ◌⊎◌, ℕ, suc, ◌+◌, ◌<◌, ◌≤◌, ◌==◌, if◌then◌else◌, List, [], ◌∷◌, length, slice_get, All, Option, Some, None}
 use Rattle.bpf_semantics.specs.State.{State}
 use Rattle.bpf_semantics.specs.Step.{Going, Ended, Stuck}
 use Rattle.bpf_semantics.specs.Path.{longest_path}
+use Rattle.log_model.specs.declared.request.RequestId.{RequestId}
 use Rattle.log_model.specs.declared.verdict.Verdict.{Verdict}
 use Rattle.log_model.specs.declared.verdict.Verdict.TheVariants.{Commit, Repeated}
-use Rattle.log_model.specs.Log.{Setting, Call, Item, CallItem, Log, IsLog, rows_after, verdict_of, run_on, run_in, moment_at}
+use Rattle.log_model.specs.Log.{Setting, reply_done, Call, Item, CallItem, Log, IsLog, rows_after, verdict_of, run_on, run_in, moment_at}
 use Rattle.log_model.specs.Fit.{IsCall, IsSafe, AreItems}
 use Rattle.dsm_model.specs.World.{World, Replica, Step, Begin, max_calls, numbered, open_call, Add, call_count}
 use Rattle.log_model.specs.OpenCall.{OpenCall}
@@ -72,12 +73,17 @@ abbrev pub reply_of : Setting → Log → Option Item → Option ℕ
 reply_of w log (Some (CallItem call)) = Some (run_in w log call).reply
 reply_of w log _ = None
 
+abbrev pub request_of_item : Option Item → Option RequestId
+request_of_item (Some (CallItem call)) = call.request
+request_of_item _ = None
+
 abbrev pub told_by : Setting → Log → ℕ → Option Verdict → Option ℕ
 told_by w log position (Some Commit) = reply_of w log (numbered log position)
-told_by w log position (Some (Repeated earlier)) = reply_of w log (numbered log earlier)
+told_by w log position (Some (Repeated earlier)) =
+    if earlier == 0 then reply_done w.beginning.requests (request_of_item (numbered log position)) else reply_of w log (numbered log earlier)
 told_by w log position _ = None
 
--- the reply that a delivery of this position tells: its call's own where that commits, and where it is repeated that of the
--- call that it repeats
+-- the reply that a delivery of this position tells: its call's own where that commits. Where the call is repeated, the reply is
+-- that of the call that it repeats, or of its request where this was done before the log
 abbrev pub told_reply : Setting → Log → ℕ → Option ℕ
 told_reply w log position = told_by w log position (verdict_of w log position)

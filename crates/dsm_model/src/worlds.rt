@@ -16,7 +16,7 @@ ghost use Rattle.dsm_model.specs.declared.outcome.StepRefusal.{StepRefusal};
 ghost use Rattle.dsm_model.specs.declared.outcome.StepRefusal.TheVariants.{NotAtExit, LogFull};
 ghost use Rattle.dsm_model.specs.declared.outcome.StepRefusal.TheVariants as step_refusal;
 ghost use Rattle.bpf_semantics.specs.Path.{longest_path};
-ghost use Rattle.log_model.specs.Fit.{HasSafeProcedures};
+ghost use Rattle.log_model.specs.Fit.{BeginsSafely};
 ghost use Rattle.dsm_model.specs.Sound.{AreGiven, IsWorld};
 ghost use Rattle.dsm_model.specs.Worlds.{delivered_items, HasExited, IsCallNumbered, IsPrefix, turns_of};
 
@@ -77,14 +77,14 @@ pub fn turns_that_run_are_counted()
 pub fn enough_turns_reach_exit()
     ensures exit { (w : Setting) (before : World) (steps : List Step) (outcomes : List Outcome)
         (after : World) (c : ℕ) (call : Call) (p : StoredProcedure)
-        → HasSafeProcedures w → AreGiven w steps outcomes → IsWorld w before
+        → BeginsSafely w → AreGiven w steps outcomes → IsWorld w before
         → AreSteps w before steps outcomes after
         → IsCallNumbered before steps outcomes c call → procedure_of w after.log call ≡ Some p
         → longest_path p.program ≤ turns_of c steps outcomes
         → HasExited c (run_in w after.log call).reply steps outcomes }
     ensures end { (w : Setting) (before : World) (steps : List Step) (outcomes : List Outcome)
         (after : World) (c : ℕ) (call : Call) (o : OpenCall) (p : StoredProcedure)
-        → HasSafeProcedures w → AreGiven w steps outcomes → IsWorld w before
+        → BeginsSafely w → AreGiven w steps outcomes → IsWorld w before
         → AreSteps w before steps outcomes after
         → IsCallNumbered before steps outcomes c call → procedure_of w after.log call ≡ Some p
         → longest_path p.program ≤ turns_of c steps outcomes

@@ -11,8 +11,8 @@ use Rattle.dsm_model.specs.declared.outcome.StepRefusal.TheVariants as step_refu
 use Rattle.dsm_model.specs.declared.outcome.Outcome.{Outcome}
 use Rattle.dsm_model.specs.declared.outcome.Outcome.TheVariants.{Begun, More, Exit, Stale, NoMemory, Ordered, Read, Cancelled, Delivered, Rebuilt, Added, Refused}
 use Rattle.log_model.specs.declared.request.RequestId.{RequestId}
-use Rattle.log_model.specs.Log.{StoredProcedure, Catalogue, Setting, Call, CallItem, Log, IsLog, by_number, procedures_after, rows_after, run_in}
-use Rattle.log_model.specs.Fit.{HasSafeProcedures, AreItems, IsCall}
+use Rattle.log_model.specs.Log.{Beginning, StoredProcedure, Catalogue, Setting, Call, CallItem, Log, IsLog, by_number, procedures_after, rows_after, run_in}
+use Rattle.log_model.specs.Fit.{BeginsSafely, AreItems, IsCall}
 use Rattle.log_model.specs.Entries.{ExecutedCall, Entry, CallEntry, items_of, CarryRuns, CarriesRun, certified_entries_of, installed_from}
 use Rattle.log_model.proofs.GrowthLemmas.{rows_grown, procedure_stays}
 use Rattle.catalogue.specs.Stored.{ListedProcedure, listed_by_number}
@@ -26,7 +26,7 @@ use Rattle.log_model.specs.OpenCall.{OpenCall}
 use Rattle.log_model.specs.Admission.{admission}
 use Rattle.dsm_model.specs.Sound.{IsWorld}
 use Rattle.bpf_verify.specs.Flow.{Procedure}
-use Rattle.catalogue.specs.Catalogue.{accepted_of}
+use Rattle.catalogue.specs.Catalogue.{beginning_of, accepted_of}
 use Rattle.world_calls.specs.OpenCall.{call_of, open_call_of, Follows, CanGoOn, IsTurn, AreTurns, stays_open, IsReplyOf}
 use Rattle.world_calls.specs.declared.open_call.OpenCall.{OpenCall as OpenCallState}
 use Rattle.dsm_world.specs.System.{SystemWorld, setting_of, progress_of, world_of}
@@ -43,8 +43,8 @@ use Rattle.dsm_world.proofs.ReplicaLemmas.{ProceduresFollow, log_count, get_is, 
 
 -- what the law of entries says of rows
 abbrev pub EntriesGiveRows : Type 0
-EntriesGiveRows = (w : Setting) (entries : List Entry) (position : ℕ) → HasSafeProcedures w → IsLog (items_of entries) → AreItems w (items_of entries) → CarryRuns w entries → position ≤ length entries
-    → map_after (installed_from 1 (certified_entries_of w.window w.catalogue entries).certified) position ≡ rows_after w (items_of entries) position
+EntriesGiveRows = (w : Setting) (entries : List Entry) (position : ℕ) → BeginsSafely w → IsLog (items_of entries) → AreItems w (items_of entries) → CarryRuns w entries → position ≤ length entries
+    → map_after w.beginning.rows (installed_from 1 (certified_entries_of w.window w.beginning entries).certified) position ≡ rows_after w (items_of entries) position
 
 pub some_is : {X : Type 0} (a b : X) → Some a ≡ Some b → a ≡ b
 some_is a b e = cc
@@ -145,7 +145,7 @@ open_facts s slots n k c h place at =
 
 -- the rows that its replica keeps of its snapshot
 pub rows_held : {A : Type 0} (s : SystemWorld) (slots : List (Option (OpenCallState A))) (r : Replica) (position : ℕ) → EntriesGiveRows → IsTogether s slots → IsReplicaOf s.catalogue s.window s.entries r → r.position ≤ length s.entries → position ≤ r.position
-    → rows_kept r.window s.catalogue.procedures (take r.position s.entries) position ≡ rows_after (setting_of s) (items_of s.entries) position
+    → rows_kept r.window (beginning_of s.catalogue) (take r.position s.entries) position ≡ rows_after (setting_of s) (items_of s.entries) position
 rows_held s slots r position law h is reached within =
     let w = setting_of s in
     let past = take r.position s.entries in
@@ -153,8 +153,8 @@ rows_held s slots r position law h is reached within =
     let are = entries_taken w s.entries r.position h.entries in
     let count = take_count s.entries r.position reached in
     let calls = items_count past in
-    ap (λ window. rows_kept window s.catalogue.procedures past position) is.stands.window
-    ∙ law w past position are.procedures are.log are.items are.runs (omega arith)
+    ap (λ window. rows_kept window (beginning_of s.catalogue) past position) is.stands.window
+    ∙ law w past position are.begins are.log are.items are.runs (omega arith)
     ∙ sym (ap (λ (log : Log). rows_after w log position) (ap items_of (sym (take_drop s.entries r.position)) ∙ items_append past more) ∙ rows_grown w (items_of past) (items_of more) position (omega arith))
 
 -- ---- Turn
@@ -332,14 +332,14 @@ procedure_there s n c f h =
     procedure_stays (setting_of s) (items_of s.entries) c.snapshot f.r.position c.procedure f.follows.is_call.procedure h.entries.log f.begun (omega arith) f.follows.is_call.known
 
 pub can_go_on : {A : Type 0} (s : SystemWorld) (slots : List (Option (OpenCallState A))) (n : ℕ) (c : OpenCallState A) (f : OpenFacts s n c) (accepted : Procedure) (answers_from : Rows → Type 0) → EntriesGiveRows → ProceduresFollow → IsTogether s slots
-    → Some accepted ≡ option_map (λ l. l.accepted) (listed_by_number f.r.procedures c.procedure) → ((base : Catalogue) (entries : List Entry) → StandsFor base f.r entries → answers_from (rows_kept f.r.window base entries c.snapshot))
+    → Some accepted ≡ option_map (λ l. l.accepted) (listed_by_number f.r.procedures c.procedure) → ((base : Beginning) (entries : List Entry) → StandsFor base f.r entries → answers_from (rows_kept f.r.window base entries c.snapshot))
     → CanGoOn (setting_of s) (items_of s.entries) accepted answers_from c
 can_go_on s slots n c f accepted answers_from law follow h e answers =
     let p = known (accepted_of s.catalogue.tables) (by_number (procedures_after (setting_of s) (world_of s).log f.r.position) c.procedure) accepted (e ∙ found_at s slots f.j c.procedure f.r follow h f.stands) in
     record {
       follows = f.follows;
       program = p.2 ∙ ap (accepted_of s.catalogue.tables) (some_is p.0 f.follows.is_call.procedure (sym p.1 ∙ procedure_there s n c f h));
-      answers = subst answers_from (rows_held s slots f.r c.snapshot law h f.is f.reached f.begun) (answers s.catalogue.procedures (take f.r.position s.entries) f.is.stands.delivered);
+      answers = subst answers_from (rows_held s slots f.r c.snapshot law h f.is f.reached f.begun) (answers (beginning_of s.catalogue) (take f.r.position s.entries) f.is.stands.delivered);
     }
 
 pub set_count : {X : Type 0} (xs : List X) (k : ℕ) (x : X) → length (slice_set xs k x) ≡ length xs
@@ -426,13 +426,13 @@ appended_together s slots n k c e outcome new one h place f a is world = elim (l
 
 pub can_turn : {A : Type 0} (s : SystemWorld) (slots : List (Option (OpenCallState A))) (n : ℕ) (c : OpenCallState A) (f : OpenFacts s n c) (accepted : Procedure) (answers_from : Rows → Type 0) (r : Replica) (snapshot : ℕ) (d b : OpenCallState A) → EntriesGiveRows → ProceduresFollow → IsTogether s slots
     → r ≡ f.r → snapshot ≡ c.snapshot → d ≡ c → b ≡ c → Some accepted ≡ option_map (λ l. l.accepted) (listed_by_number r.procedures b.procedure)
-    → ((base : Catalogue) (entries : List Entry) → StandsFor base r entries → answers_from (rows_kept r.window base entries snapshot)) → CanGoOn (setting_of s) (items_of s.entries) accepted answers_from d
+    → ((base : Beginning) (entries : List Entry) → StandsFor base r entries → answers_from (rows_kept r.window base entries snapshot)) → CanGoOn (setting_of s) (items_of s.entries) accepted answers_from d
 can_turn s slots n c f accepted answers_from r snapshot d b law follow h same at is own e answers =
     subst (λ (x : OpenCallState _). CanGoOn (setting_of s) (items_of s.entries) accepted answers_from x) (sym is)
     (can_go_on s slots n c f accepted answers_from law follow h
     (e ∙ ap (λ (x : OpenCallState _). option_map (λ l. l.accepted) (listed_by_number r.procedures x.procedure)) own ∙ ap (λ (x : Replica). option_map (λ l. l.accepted) (listed_by_number x.procedures c.procedure)) same)
-    (subst (λ (m : ℕ). (base : Catalogue) (entries : List Entry) → StandsFor base f.r entries → answers_from (rows_kept f.r.window base entries m)) at
-    (subst (λ (x : Replica). (base : Catalogue) (entries : List Entry) → StandsFor base x entries → answers_from (rows_kept x.window base entries snapshot)) same answers)))
+    (subst (λ (m : ℕ). (base : Beginning) (entries : List Entry) → StandsFor base f.r entries → answers_from (rows_kept f.r.window base entries m)) at
+    (subst (λ (x : Replica). (base : Beginning) (entries : List Entry) → StandsFor base x entries → answers_from (rows_kept x.window base entries snapshot)) same answers)))
 
 pub turn_steps : {A : Type 0} (s : SystemWorld) (slots : List (Option (OpenCallState A))) (n k : ℕ) (c new : OpenCallState A) (f : OpenFacts s n c) (before : ℕ) (turn : TurnAnswer) (left : Option (OpenCallState A)) (gone : Bool) (r : Replica) (snapshot : ℕ) (d : OpenCallState A) → IsTogether s slots → n ≡ k + 1
     → r ≡ f.r → snapshot ≡ c.snapshot → d ≡ c → gone ≡ nat_lt r.window (r.position - snapshot) → AreTurns (setting_of s) (items_of s.entries) gone before (open_call_of d) turn (open_call_of new) → option_map open_call_of left ≡ cond (stays_open turn) (Some (open_call_of new)) None
@@ -460,7 +460,7 @@ held_replica s n c f r d is index =
 pub can_turn_held : {A : Type 0} (s : SystemWorld) (slots : List (Option (OpenCallState A))) (n k : ℕ) (c : OpenCallState A) (accepted : Procedure) (answers_from : Rows → Type 0) (r : Replica) (procedures : List ListedProcedure) (by_replica by_procedure by_snapshot d : OpenCallState A)
     → EntriesGiveRows → ProceduresFollow → IsTogether s slots → n ≡ k + 1 → slice_get slots k ≡ Some (Some c) → by_replica ≡ c → by_procedure ≡ c → by_snapshot ≡ c → d ≡ c
     → r ≡ get_or s.replicas (by_replica.replica - 1) r → procedures ≡ r.procedures → Some accepted ≡ option_map (λ l. l.accepted) (listed_by_number procedures by_procedure.procedure)
-    → ((base : Catalogue) (entries : List Entry) → StandsFor base r entries → answers_from (rows_kept r.window base entries by_snapshot.snapshot)) → CanTurn s n c accepted answers_from r d
+    → ((base : Beginning) (entries : List Entry) → StandsFor base r entries → answers_from (rows_kept r.window base entries by_snapshot.snapshot)) → CanTurn s n c accepted answers_from r d
 can_turn_held s slots n k c accepted answers_from r procedures by_replica by_procedure by_snapshot d law follow h place at replica_is procedure_is snapshot_is is index held found answers =
     let f = open_facts s slots n k c h place at in
     let same = held_replica s n c f r by_replica replica_is index in

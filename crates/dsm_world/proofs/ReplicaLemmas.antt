@@ -19,7 +19,7 @@ use Rattle.dsm_model.specs.World.{World, Step, Deliver, Rebuild, numbered, with_
 use Rattle.dsm_model.specs.Sound.{IsGiven, IsWorld}
 use Rattle.world_calls.specs.declared.open_call.OpenCall.{OpenCall as OpenCallState}
 use Rattle.log_model.proofs.GrowthLemmas.{procedures_grown}
-use Rattle.catalogue.specs.Catalogue.{accepted_of}
+use Rattle.catalogue.specs.Catalogue.{beginning_of, accepted_of}
 use Rattle.catalogue.proofs.HeldLemmas.{numbered_for}
 use Rattle.dsm_world.specs.System.{SystemWorld, setting_of, progress_of, world_of}
 use Rattle.dsm_world.specs.declared.world.World.TheInside.{Inside}
@@ -170,7 +170,7 @@ next_entry_fits s slots k old e h at next =
 
 -- ---- Rebuild
 
-pub rebuilt : (s : SystemWorld) (r k : ℕ) (old new : Replica) → r ≡ k + 1 → slice_get s.replicas k ≡ Some old → StandsFor s.catalogue.procedures new s.entries → new.stopped ≡ false
+pub rebuilt : (s : SystemWorld) (r k : ℕ) (old new : Replica) → r ≡ k + 1 → slice_get s.replicas k ≡ Some old → StandsFor (beginning_of s.catalogue) new s.entries → new.stopped ≡ false
     → IsStep (setting_of s) (world_of s) (Rebuild r) (Rebuilt (length s.entries)) (world_of (with_one s k new))
 rebuilt s r k old new is at stands going =
     let count = log_count s in
@@ -180,7 +180,7 @@ rebuilt s r k old new is at stands going =
     (subst (λ (x : World). IsStep (setting_of s) (world_of s) (Rebuild r) (Rebuilt (length (world_of s).log)) x) (world_with s r k new _ is progress)
     (rebuild_new (setting_of s) (world_of s) r (progress_of old) (replica_at s r k old is at)))
 
-pub rebuilt_replica : {A : Type 0} (s : SystemWorld) (slots : List (Option (OpenCallState A))) (k : ℕ) (old new : Replica) → IsTogether s slots → slice_get s.replicas k ≡ Some old → StandsFor s.catalogue.procedures new s.entries → new.window ≡ old.window → HaveTables s.catalogue.tables new.versions.tables → AreForTables s.catalogue.tables new.procedures
+pub rebuilt_replica : {A : Type 0} (s : SystemWorld) (slots : List (Option (OpenCallState A))) (k : ℕ) (old new : Replica) → IsTogether s slots → slice_get s.replicas k ≡ Some old → StandsFor (beginning_of s.catalogue) new s.entries → new.window ≡ old.window → HaveTables s.catalogue.tables new.versions.tables → AreForTables s.catalogue.tables new.procedures
     → IsReplicaOf s.catalogue s.window s.entries new
 rebuilt_replica s slots k old new h at stands window have for_tables =
     has_delivered s slots new s.entries h (sym (take_all s.entries new.position (let p = stands.position in omega arith)))

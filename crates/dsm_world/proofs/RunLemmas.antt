@@ -5,10 +5,10 @@ use Rattle.rows_mv.specs.Versions.{AnswersFrom}
 use Rattle.log_model.proofs.GrowthLemmas.{rows_grown}
 use Rattle.replica.specs.Replica.{Replica, StandsFor, StandsIn, FollowsLog}
 use Rattle.dsm_model.specs.declared.outcome.Outcome.{Outcome}
-use Rattle.log_model.specs.Log.{Catalogue, Setting, Log, rows_after}
+use Rattle.log_model.specs.Log.{Beginning, Catalogue, Setting, Log, rows_after}
 use Rattle.log_model.specs.Entries.{Entry, items_of}
 use Rattle.catalogue.specs.Catalogue.{SystemCatalogue, system_setting}
-use Rattle.log_model.specs.Fit.{HasSafeProcedures}
+use Rattle.log_model.specs.Fit.{BeginsSafely}
 use Rattle.dsm_model.specs.World.{World, Replica as ModelReplica, Step, first_world, numbered, IsStep, AreSteps}
 use Rattle.world_calls.specs.declared.open_call.OpenCall.{OpenCall as OpenCallState}
 use Rattle.dsm_model.specs.Sound.{IsGiven, AreGiven, IsWorld}
@@ -93,17 +93,17 @@ one_more_answer w steps n item outcomes more outcome taken answered count =
 abbrev the_empty : List Entry
 the_empty = []
 
-pub first_replica : (catalogue : SystemCatalogue) (window : ℕ) (r : Replica) → HasSafeProcedures (system_setting catalogue window)
+pub first_replica : (catalogue : SystemCatalogue) (window : ℕ) (r : Replica) → BeginsSafely (system_setting catalogue window)
     → StandsIn (system_setting catalogue window) r [] → IsReplicaOf catalogue window [] r
 first_replica catalogue window r safe stands =
     subst (FollowsLog (system_setting catalogue window) r) (nothing r.position)
-    (record { of_log = record { procedures = safe; log = tt; items = tt; runs = tt }; stands = stands })
+    (record { of_log = record { begins = safe; log = tt; items = tt; runs = tt }; stands = stands })
   where
     nothing : (n : ℕ) → the_empty ≡ take n the_empty
     nothing zero = refl
     nothing (suc n) = refl
 
-pub first_progress : (base : Catalogue) (r : Replica) → StandsFor base r [] → r.stopped ≡ false → progress_of r ≡ record { position = 0; stopped = false }
+pub first_progress : (base : Beginning) (r : Replica) → StandsFor base r [] → r.stopped ≡ false → progress_of r ≡ record { position = 0; stopped = false }
 first_progress base r stands running = ap (λ n. record { position = n; stopped = r.stopped }) stands.position ∙ ap (λ b. record { position = 0; stopped = b }) running
 
 pub all_alike : {X Y : Type 0} (f : X → Y) (xs : List X) (y : Y) → ((k : ℕ) (x : X) → slice_get xs k ≡ Some x → f x ≡ y) → map f xs ≡ replicate (length xs) y
@@ -115,11 +115,11 @@ pub first_of : (catalogue : SystemCatalogue) (window n : ℕ) (replicas : List R
 first_of catalogue window n replicas count fresh =
     ap (λ (rs : List ModelReplica). record { log = []; replicas = rs; calls = [] }) (all_alike progress_of replicas (record { position = 0; stopped = false }) fresh ∙ ap (λ (m : ℕ). replicate m (record { position = 0; stopped = false })) count)
 
-pub first_together : {A : Type 0} (catalogue : SystemCatalogue) (window n : ℕ) (replicas : List Replica) → ((w : Setting) (n : ℕ) → IsWorld w (first_world n)) → HasSafeProcedures (system_setting catalogue window) → length replicas ≡ n
+pub first_together : {A : Type 0} (catalogue : SystemCatalogue) (window n : ℕ) (replicas : List Replica) → ((w : Setting) (n : ℕ) → IsWorld w (first_world n)) → BeginsSafely (system_setting catalogue window) → length replicas ≡ n
     → ((k : ℕ) (r : Replica) → slice_get replicas k ≡ Some r → IsReplicaOf catalogue window [] r) → ((k : ℕ) (r : Replica) → slice_get replicas k ≡ Some r → progress_of r ≡ record { position = 0; stopped = false })
     → IsTogether {A = A} (record { catalogue = catalogue; window = window; entries = []; replicas = replicas; calls = [] }) []
 first_together catalogue window n replicas law safe count each fresh = record {
-  entries = record { procedures = safe; log = tt; items = tt; runs = tt };
+  entries = record { begins = safe; log = tt; items = tt; runs = tt };
   writes = tt;
   named = tt;
   world = subst (λ (x : World). IsWorld (system_setting catalogue window) x) (sym (first_of catalogue window n replicas count fresh)) (law _ n);

@@ -1,6 +1,6 @@
 -- A world of replicas as contracts see it, and the world of the definitions that it is.
 use Rattle.std.specs.Prelude.{◌≡◌, ℕ, ◌-◌, ◌≤◌, List, map, take, Option, Some, None}
-use Rattle.catalogue.specs.Catalogue.{SystemCatalogue, system_setting}
+use Rattle.catalogue.specs.Catalogue.{beginning_of, SystemCatalogue, system_setting}
 use Rattle.rows_mv.specs.Versions.{AnswersFrom}
 use Rattle.replica.specs.Replica.{Replica, StandsFor, AreEntriesOf}
 use Rattle.log_model.specs.Log.{Setting, rows_after, procedures_after}
@@ -46,7 +46,7 @@ step_of w (Add name number args_len bytes) = model.Add name.now number args_len 
 
 -- what a replica keeps is of the entries as far as it has come: its verdicts, rows and procedures are those of the log
 pub record KeepsDelivered (s : SystemWorld) (r : Replica) : Type 0 where
-  pub delivered : StandsFor s.catalogue.procedures r (take r.position s.entries)
+  pub delivered : StandsFor (beginning_of s.catalogue) r (take r.position s.entries)
   pub window : r.window ≡ s.window
   pub entries : AreEntriesOf (setting_of s) s.entries
   pub rows : (position : ℕ) → position ≤ r.position → r.position - position ≤ s.window

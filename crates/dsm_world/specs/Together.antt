@@ -11,7 +11,7 @@ use Rattle.world_calls.specs.OpenCall.{open_call_of, Follows}
 use Rattle.world_calls.specs.declared.open_call.OpenCall.{OpenCall as OpenCallState}
 use Rattle.dsm_world.specs.System.{SystemWorld, setting_of, world_of}
 
--- a replica of this catalogue has delivered a beginning of the entries, and follows the log of that beginning
+-- a replica of this catalogue has delivered a prefix of the entries, and follows the log of that prefix
 abbrev pub IsReplicaOf : SystemCatalogue → ℕ → List Entry → Replica → Type 0
 IsReplicaOf catalogue window entries r =
     FollowsLog (system_setting catalogue window) r (take r.position entries)

@@ -11,7 +11,7 @@ ghost use Rattle.log_model.specs.Log.{Call, CallItem, Log, StoredProcedure, by_n
 ghost use Rattle.log_model.specs.Log.{run_in, same_request, verdict_of};
 ghost use Rattle.log_model.specs.Entries.{CallEntry, ExecutedCall};
 ghost use Rattle.log_entry.specs.Kind.{entry_of};
-ghost use Rattle.log_model.specs.Fit.{HasSafeProcedures};
+ghost use Rattle.log_model.specs.Fit.{BeginsSafely};
 ghost use Rattle.dsm_model.specs.World.{Turn as TurnStep, Order as OrderStep, IsStep, AreSteps, first_world, numbered};
 ghost use Rattle.dsm_model.specs.World.{open_call};
 ghost use Rattle.log_model.specs.OpenCall.{OpenCall as ModelCall};
@@ -239,16 +239,16 @@ impl<A: Allocator + Copy> World<A> {
         Ok(outcomes)
     }
 
-    /// Every world keeps what was delivered. Steps lead to such a world. Its catalogue's procedures were accepted and
-    /// are safe, and its entries are those of a log and carry their runs. The verdicts, rows and procedures that a
-    /// replica keeps are those of the log as far as the replica has come. Each open call is sound. Its run, with the
-    /// reply that a turn answers at its end, stays the same however long the log becomes. An entry carries the reply of
-    /// its call's run, and where the call commits that of the call run in its turn. So whoever takes single steps knows
-    /// what becomes of a reply.
+    /// Every world keeps what was delivered. Steps lead to such a world. Its catalogue's procedures were accepted. The
+    /// world begins with safe procedures and rows of its tables. Its entries are those of a log and carry their runs.
+    /// The verdicts, rows and procedures that a replica keeps are those of the log as far as the replica has come. Each
+    /// open call is sound. Its run, with the reply that a turn answers at its end, stays the same however long the log
+    /// becomes. An entry carries the reply of its call's run, and where the call commits that of the call run in its
+    /// turn. So whoever takes single steps knows what becomes of a reply.
     pub fn keeps_what_was_delivered(&self)
         ensures world { IsWorld (setting_of self.now) (world_of self.now) }
         ensures catalogue { IsCatalogue self.now.catalogue }
-        ensures procedures { HasSafeProcedures (setting_of self.now) }
+        ensures begins { BeginsSafely (setting_of self.now) }
         ensures entries { AreEntriesOf (setting_of self.now) self.now.entries }
         ensures replicas { (r : ℕ) (k : ReplicaState) → numbered self.now.replicas r ≡ Some k
             → KeepsDelivered self.now k }

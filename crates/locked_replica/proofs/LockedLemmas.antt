@@ -5,7 +5,7 @@ use Rattle.schema.specs.Schema.{AreTables}
 use Rattle.log_model.specs.InstalledWrites.{map_after}
 use Rattle.log_model.specs.declared.verdict.Verdict.{Verdict}
 use Rattle.log_model.specs.Log.{Setting, IsLog, rows_after, verdict_of}
-use Rattle.log_model.specs.Fit.{HasSafeProcedures, AreItems}
+use Rattle.log_model.specs.Fit.{BeginsSafely, AreItems}
 use Rattle.log_model.specs.Entries.{Entry, items_of, CarryRuns, certified_entries_of, installed_from}
 use Rattle.log_entry.specs.declared.entry.Entry.{Entry as LogEntry}
 use Rattle.log_entry.specs.Kind.{entry_of}
@@ -18,12 +18,12 @@ use Rattle.locked_replica.specs.Locked.{LockedState, Keeps}
 
 -- what a replica says of the verdict at a position
 abbrev pub HasLogVerdict : Replica → ℕ → Verdict → Type 0
-HasLogVerdict r position v = (w : Setting) (entries : List Entry) → w.window ≡ r.window → StandsFor w.catalogue r entries → AreEntriesOf w entries → verdict_of w (items_of entries) position ≡ Some v
+HasLogVerdict r position v = (w : Setting) (entries : List Entry) → w.window ≡ r.window → StandsFor w.beginning r entries → AreEntriesOf w entries → verdict_of w (items_of entries) position ≡ Some v
 
 -- what the laws of lower crates say
 abbrev pub RowsSuffice : Type 0
-RowsSuffice = (w : Setting) (entries : List Entry) (position : ℕ) → HasSafeProcedures w → IsLog (items_of entries) → AreItems w (items_of entries) → CarryRuns w entries → position ≤ length entries
-    → map_after (installed_from 1 (certified_entries_of w.window w.catalogue entries).certified) position ≡ rows_after w (items_of entries) position
+RowsSuffice = (w : Setting) (entries : List Entry) (position : ℕ) → BeginsSafely w → IsLog (items_of entries) → AreItems w (items_of entries) → CarryRuns w entries → position ≤ length entries
+    → map_after w.beginning.rows (installed_from 1 (certified_entries_of w.window w.beginning entries).certified) position ≡ rows_after w (items_of entries) position
 
 abbrev pub OfLog : (A : Type 0) → Type 0
 OfLog A = (w : Setting) (entries : List (LogEntry A)) (e : LogEntry A) → AreTables w.tables → AreEntriesOf w (entries_of entries) → HasFactAfter (IsOrdered w) entries e → AreEntriesOf w (entries_of (entries ++ e ∷ []))
@@ -38,10 +38,11 @@ module _ {A : Type 0} where
   abbrev pub with_entries : Replica → List (LogEntry A) → LockedState A
   with_entries r entries = record { replica = r; entries = entries }
 
-  pub keeps_none : (w : Setting) (r : Replica) (entries : List (LogEntry A)) → entries ≡ [] → AreTables w.tables → HasSafeProcedures w → StandsIn w r [] → Keeps w (with_entries r entries)
-  keeps_none w r entries none schema safe stands = subst (λ (xs : List (LogEntry A)). Keeps w (with_entries r xs)) (sym none) (record {
+  pub keeps_none : (w : Setting) (r : Replica) (entries : List (LogEntry A)) → entries ≡ [] → AreTables w.tables → BeginsSafely w → w.beginning.requests ≡ [] → StandsIn w r [] → Keeps w (with_entries r entries)
+  keeps_none w r entries none schema safe none_before stands = subst (λ (xs : List (LogEntry A)). Keeps w (with_entries r xs)) (sym none) (record {
     schema = schema;
-    follows = record { of_log = record { procedures = safe; log = tt; items = tt; runs = tt }; stands = stands };
+    none_before = none_before;
+    follows = record { of_log = record { begins = safe; log = tt; items = tt; runs = tt }; stands = stands };
   })
 
   -- one more entry
@@ -49,6 +50,7 @@ module _ {A : Type 0} where
       → StandsIn w new (entries_of entries ++ entry_of e ∷ []) → Keeps w (with_entries new seen)
   keeps_more of_log w old new entries seen e keeps is fact stands = subst (λ (xs : List (LogEntry A)). Keeps w (with_entries new xs)) (sym is) (record {
     schema = keeps.schema;
+    none_before = keeps.none_before;
     follows = record {
       of_log = of_log w entries e keeps.schema keeps.follows.of_log fact;
       stands = subst (StandsIn w new) (sym (entries_append entries (e ∷ []))) stands;
@@ -56,7 +58,7 @@ module _ {A : Type 0} where
   })
 
   pub verdict_more : (of_log : OfLog A) (w : Setting) (old new : Replica) (entries seen : List (LogEntry A)) (e : LogEntry A) (v : Verdict) → Keeps w (with_entries old entries) → seen ≡ entries ++ e ∷ [] → HasFactAfter (IsOrdered w) entries e
-      → ((w : Setting) (before : List Entry) → w.window ≡ old.window → StandsFor w.catalogue old before → AreEntriesOf w (before ++ entry_of e ∷ []) → verdict_of w (items_of (before ++ entry_of e ∷ [])) new.position ≡ Some v)
+      → ((w : Setting) (before : List Entry) → w.window ≡ old.window → StandsFor w.beginning old before → AreEntriesOf w (before ++ entry_of e ∷ []) → verdict_of w (items_of (before ++ entry_of e ∷ [])) new.position ≡ Some v)
       → new.position ≡ old.position + 1 → verdict_of w (items_of (entries_of seen)) (length seen) ≡ Some v
   verdict_more of_log w old new entries seen e v keeps is fact verdict next =
       let count : length (entries ++ e ∷ []) ≡ new.position = let p = keeps.follows.stands.delivered.position in let n = entries_count entries in omega (arith, length-append entries (e ∷ [])) in
@@ -79,11 +81,11 @@ module _ {A : Type 0} where
 
   -- the rows after what was seen
   pub rows_seen : (same : RowsSame A) (suffice : RowsSuffice) (w : Setting) (r : Replica) (entries seen : List (LogEntry A)) (n : ℕ) → Keeps w (with_entries r entries) → IsPrefix seen entries → n ≡ length seen → length seen ≤ length entries
-      → rows_kept r.window w.catalogue (entries_of entries) n ≡ rows_after w (items_of (entries_of seen)) (length seen)
+      → rows_kept r.window w.beginning (entries_of entries) n ≡ rows_after w (items_of (entries_of seen)) (length seen)
   rows_seen same suffice w r entries seen n keeps begins is le =
       let are = keeps.follows.of_log in
       let within : length seen ≤ length (entries_of entries) = let c = entries_count entries in omega arith in
-      ap (λ window. rows_kept window w.catalogue (entries_of entries) n) keeps.follows.stands.window
-      ∙ ap (rows_kept w.window w.catalogue (entries_of entries)) is
-      ∙ suffice w (entries_of entries) (length seen) are.procedures are.log are.items are.runs within
+      ap (λ window. rows_kept window w.beginning (entries_of entries) n) keeps.follows.stands.window
+      ∙ ap (rows_kept w.window w.beginning (entries_of entries)) is
+      ∙ suffice w (entries_of entries) (length seen) are.begins are.log are.items are.runs within
       ∙ same w seen entries begins

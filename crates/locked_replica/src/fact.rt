@@ -5,7 +5,7 @@ use std::marker::{Brand, PhantomData};
 pub trait LogSetting: LogIdentity {
     ghost use Rattle.log_model.specs.Log.{Setting};
 
-    /// The tables, the procedures at first, and the window.
+    /// The tables, what the database begins with, and the window.
     ghost setting: { Setting };
 }
 
@@ -13,7 +13,11 @@ impl LogSetting for Brand {
     ghost use Rattle.std.specs.Prelude.{[]};
     ghost use Rattle.std.specs.FinMap.{empty};
 
-    ghost setting = { record { tables = empty; catalogue = []; window = 0 } };
+    ghost setting = { record {
+      tables = empty;
+      beginning = record { rows = empty; procedures = []; requests = [] };
+      window = 0;
+    } };
 }
 
 /// The fact of the entries of a database's log. A call's entry has its run, and writes rows of the schema's tables. An

@@ -1,6 +1,5 @@
 -- What the log came to when one of its items was next.
 use Rattle.std.proofs.Common.{◌≡◌, ℕ, zero, suc, ◌+◌, ◌≤◌, ◌<◌, List, [], ◌∷◌, ◌++◌, length, take, get_or, fold, Some, slice_get, option_map, refl, sym, ap, subst, ◌∙◌, arith, append_assoc, append-nil}
-use Rattle.std.specs.FinMap.{empty}
 use Rattle.std.specs.List.{AllByRecursion}
 use Rattle.std.proofs.lemmas.List.{length-append, length-map}
 use Rattle.std.proofs.Math.ListN.{get_or-append}
@@ -10,9 +9,9 @@ use Rattle.bpf_semantics.specs.Run.{Run}
 use Rattle.bpf_semantics.specs.Agree.{same_on}
 use Rattle.log_model.specs.declared.verdict.Verdict.{Verdict}
 use Rattle.log_model.specs.declared.verdict.Verdict.TheVariants.{Commit}
-use Rattle.log_model.specs.Log.{StoredProcedure, Setting, Call, Item, CallItem, AdditionItem, Log, IsPlaced, IsLogFrom, IsLog, run_of_call, CertifiedItem, verdict_after, certified_addition, Database, first_database, History, start, database_at, database_now, with_certified, if_commits, run_at, certified_item, database_after_item, with_item, history, rows_after, procedures_after, verdict_of, run_on, run_in}
+use Rattle.log_model.specs.Log.{StoredProcedure, Setting, Call, Item, CallItem, AdditionItem, Log, IsPlaced, IsLogFrom, IsLog, run_of_call, CertifiedItem, verdict_after, certified_addition, Database, first_database, no_database, History, start, database_at, database_now, with_certified, if_commits, run_at, certified_item, database_after_item, with_item, history, rows_after, procedures_after, verdict_of, run_on, run_in}
 use Rattle.log_model.proofs.Laid.{rows_laid_on}
-use Rattle.log_model.specs.Fit.{HasSafeProcedures, FitsProcedures, FitsLog, AllFitLog, IsItem, AreItems}
+use Rattle.log_model.specs.Fit.{BeginsSafely, FitsProcedures, FitsLog, AllFitLog, IsItem, AreItems}
 use Rattle.log_model.specs.Entries.{Entry, CallEntry, AdditionEntry, item_of, items_of, IsCarried, CarryRuns, CertifiedEntries, with_entry, certified_entries_of}
 use Rattle.log_model.proofs.RunLemmas.{just, fits_of_call}
 use Rattle.log_model.proofs.HistoryLemmas.{IsKept, start_kept, IsNext, item_kept, count_with_item, run_begun, verdict_at, procedures_begun, serial}
@@ -43,14 +42,14 @@ Even h = length h.databases ≡ suc (length h.certified)
 pub databases_stay : (h g : History) → Even h → Grows h g → (p : ℕ) → p ≤ length h.certified → database_at g p ≡ database_at h p
 databases_stay h g even more p le =
     let inside : p < length h.databases = omega arith in
-    ap (λ (l : List Database). get_or l p (first_database [])) more.databases_is ∙ get_or-append h.databases more.databases (first_database []) p inside
+    ap (λ (l : List Database). get_or l p no_database) more.databases_is ∙ get_or-append h.databases more.databases no_database p inside
 
 -- the last of one more is it
 pub last_is : (h : History) (c : CertifiedItem) (d : Database) → Even h → database_now (with_certified h c d) ≡ d
 last_is h c d even =
     let count : length (h.certified ++ c ∷ []) ≡ length h.certified + 1 = length-append h.certified (c ∷ []) in
     let seam : length (h.certified ++ c ∷ []) ≡ length h.databases = omega arith in
-    ap (λ (k : ℕ). get_or (h.databases ++ d ∷ []) k (first_database [])) seam ∙ get_or-append_seam h.databases d [] (first_database [])
+    ap (λ (k : ℕ). get_or (h.databases ++ d ∷ []) k no_database) seam ∙ get_or-append_seam h.databases d [] no_database
 
 -- ---- one of the items
 
@@ -86,14 +85,14 @@ first_at w P h n item log kept even count below =
       databases = λ p le.
           let old : p < length h.databases = omega arith in
           let new : p < length (h.databases ++ database_after_item w h item (certified_item w h item).verdict ∷ []) = omega arith in
-          ap (λ (l : List Database). get_or l p (first_database [])) more.databases_is
-          ∙ get_or-append (h.databases ++ database_after_item w h item (certified_item w h item).verdict ∷ []) more.databases (first_database []) p new
-          ∙ get_or-append h.databases _ (first_database []) p old;
+          ap (λ (l : List Database). get_or l p no_database) more.databases_is
+          ∙ get_or-append (h.databases ++ database_after_item w h item (certified_item w h item).verdict ∷ []) more.databases no_database p new
+          ∙ get_or-append h.databases _ no_database p old;
       next =
           ap (λ (k : ℕ). database_at g k) seam
-          ∙ ap (λ (l : List Database). get_or l (length h.databases) (first_database [])) more.databases_is
-          ∙ get_or-append (h.databases ++ database_after_item w h item (certified_item w h item).verdict ∷ []) more.databases (first_database []) (length h.databases) inside
-          ∙ get_or-append_seam h.databases _ [] (first_database []);
+          ∙ ap (λ (l : List Database). get_or l (length h.databases) no_database) more.databases_is
+          ∙ get_or-append (h.databases ++ database_after_item w h item (certified_item w h item).verdict ∷ []) more.databases no_database (length h.databases) inside
+          ∙ get_or-append_seam h.databases _ [] no_database;
     }
 
 pub even_with_item : (w : Setting) (h : History) (item : Item) → Even h → Even (with_item w h item)
@@ -161,7 +160,7 @@ fold_kept w h n [] kept count below items = kept
 fold_kept w h n (item ∷ log) kept count below items =
     fold_kept w (with_item w h item) (suc n) log (item_kept w h item kept items.0 (placed_as (length h.certified) n item count below.0)) (count_with_item w h item ∙ ap suc count) below.1 items.1
 
-pub history_kept : (w : Setting) (log : Log) → HasSafeProcedures w → IsLog log → AllFitLog w log → IsKept w (history w log)
+pub history_kept : (w : Setting) (log : Log) → BeginsSafely w → IsLog log → AllFitLog w log → IsKept w (history w log)
 unfolding history
 history_kept w log safe below items = fold_kept w (start w) 0 log (start_kept w safe) refl below (items_forward w log below items)
 
@@ -184,7 +183,7 @@ at w log d item below e =
     let none : 0 + d ≡ d = omega arith in
     subst (λ (k : ℕ). At w Any (history w log) k item) none (at_from w Any AnyNext (start w) 0 log d item (any_stays w) tt refl refl below (any_all w (start w) log) e)
 
-pub kept_at : (w : Setting) (log : Log) (d : ℕ) (item : Item) → HasSafeProcedures w → IsLog log → AllFitLog w log → slice_get log d ≡ just item → At w (IsKept w) (history w log) d item
+pub kept_at : (w : Setting) (log : Log) (d : ℕ) (item : Item) → BeginsSafely w → IsLog log → AllFitLog w log → slice_get log d ≡ just item → At w (IsKept w) (history w log) d item
 unfolding history
 kept_at w log d item safe below items e =
     let none : 0 + d ≡ d = omega arith in
@@ -205,14 +204,14 @@ seam : {X : Type 0} (xs : List X) (x : X) (ys : List X) → slice_get (xs ++ x �
 seam [] x ys = refl
 seam (y ∷ xs) x ys = seam xs x ys
 
-pub database_first : (w : Setting) (log : Log) → database_at (history w log) 0 ≡ first_database w.catalogue
+pub database_first : (w : Setting) (log : Log) → database_at (history w log) 0 ≡ first_database w.beginning
 unfolding history
 database_first w log = databases_stay (start w) (fold (with_item w) (start w) log) refl (grows w (start w) log) 0 (omega arith)
 
-pub rows_first : (w : Setting) (log : Log) → rows_after w log 0 ≡ empty
+pub rows_first : (w : Setting) (log : Log) → rows_after w log 0 ≡ w.beginning.rows
 rows_first w log = ap (λ (d : Database). d.rows) (database_first w log)
 
-pub procedures_first : (w : Setting) (log : Log) → procedures_after w log 0 ≡ w.catalogue
+pub procedures_first : (w : Setting) (log : Log) → procedures_after w log 0 ≡ w.beginning.procedures
 procedures_first w log = ap (λ (d : Database). d.procedures) (database_first w log)
 
 -- the run of a call on some rows, and on those of its snapshot
@@ -249,14 +248,14 @@ pub certified_is : (w : Setting) (log : Log) (d : ℕ) (call : Call) → IsLog l
     → slice_get (history w log).certified d ≡ Some (record {
       request = call.request;
       writes = (run_in w log call).writes;
-      verdict = verdict_after w.window (take d (history w log).certified) call (run_in w log call).looks;
+      verdict = verdict_after w.window w.beginning.requests (take d (history w log).certified) call (run_in w log call).looks;
     })
 certified_is w log d call below e =
     let a = at w log d (CallItem call) below e in
     certified_there w log d (CallItem call) _ a
     ∙ ap just (certified_call w a.past call)
-    ∙ sym (ap (λ (r : Run). just (record { request = call.request; writes = r.writes; verdict = verdict_after w.window (take d (history w log).certified) call r.looks })) (same_begun w log d call _ a)
-    ∙ ap (λ (l : List CertifiedItem). just (record { request = call.request; writes = (run_begun w a.past call).writes; verdict = verdict_after w.window l call (run_begun w a.past call).looks })) (past_is w log d (CallItem call) _ a))
+    ∙ sym (ap (λ (r : Run). just (record { request = call.request; writes = r.writes; verdict = verdict_after w.window w.beginning.requests (take d (history w log).certified) call r.looks })) (same_begun w log d call _ a)
+    ∙ ap (λ (l : List CertifiedItem). just (record { request = call.request; writes = (run_begun w a.past call).writes; verdict = verdict_after w.window w.beginning.requests l call (run_begun w a.past call).looks })) (past_is w log d (CallItem call) _ a))
 
 pub addition_is : (w : Setting) (log : Log) (d : ℕ) (p : StoredProcedure) → IsLog log → slice_get log d ≡ just (AdditionItem p)
     → slice_get (history w log).certified d ≡ Some (certified_addition (procedures_after w log d) p)
@@ -313,7 +312,7 @@ procedures_after_addition w log d p v below e verdict =
 
 -- ---- the runs of those that commit
 
-pub serial_where_fit : (w : Setting) (log : Log) (d : ℕ) (call : Call) → HasSafeProcedures w → IsLog log → AllFitLog w log → slice_get log d ≡ just (CallItem call) → verdict_of w log (suc d) ≡ just Commit
+pub serial_where_fit : (w : Setting) (log : Log) (d : ℕ) (call : Call) → BeginsSafely w → IsLog log → AllFitLog w log → slice_get log d ≡ just (CallItem call) → verdict_of w log (suc d) ≡ just Commit
     → run_on w log call (rows_after w log d) ≡ same_on (rows_after w log d) (run_in w log call)
 serial_where_fit w log d call safe below items e verdict =
     let a = kept_at w log d (CallItem call) safe below items e in
@@ -338,38 +337,38 @@ all_fit_in w whole (item ∷ log) items = (fits_item w whole item items.0, all_f
 pub items_fit : (w : Setting) (log : Log) → AreItems w log → AllFitLog w log
 items_fit w log items = all_fit_in w log log items
 
-pub serial_run : (w : Setting) (log : Log) (d : ℕ) (call : Call) → HasSafeProcedures w → IsLog log → AreItems w log → slice_get log d ≡ just (CallItem call) → verdict_of w log (suc d) ≡ just Commit
+pub serial_run : (w : Setting) (log : Log) (d : ℕ) (call : Call) → BeginsSafely w → IsLog log → AreItems w log → slice_get log d ≡ just (CallItem call) → verdict_of w log (suc d) ≡ just Commit
     → run_on w log call (rows_after w log d) ≡ same_on (rows_after w log d) (run_in w log call)
 serial_run w log d call safe below items e verdict = serial_where_fit w log d call safe below (items_fit w log items) e verdict
 
 -- ---- by what was shipped alone
 
-abbrev so_far : History → CertifiedEntries
-so_far h = record { certified = h.certified; procedures = (database_now h).procedures }
+abbrev so_far : Setting → History → CertifiedEntries
+so_far w h = record { done = w.beginning.requests; certified = h.certified; procedures = (database_now h).procedures }
 
 -- looks and writes are those of the run, by what the whole log came to
 abbrev CarriedIn : Setting → History → Entry → Type 0
 CarriedIn w g (CallEntry e) = (e.looks ≡ (run_begun w g e.call).looks) × (e.writes ≡ (run_begun w g e.call).writes)
 CarriedIn w g (AdditionEntry p) = Unit {0}
 
-one_entry : (w : Setting) (h g : History) (e : Entry) → Even h → Grows h g → IsPlaced (length h.certified) (item_of e) → CarriedIn w g e → with_entry w.window (so_far h) e ≡ so_far (with_item w h (item_of e))
+one_entry : (w : Setting) (h g : History) (e : Entry) → Even h → Grows h g → IsPlaced (length h.certified) (item_of e) → CarriedIn w g e → with_entry w.window (so_far w h) e ≡ so_far w (with_item w h (item_of e))
 one_entry w h g (CallEntry e) even more le carry =
     let stays : run_begun w g e.call ≡ run_begun w h e.call = ap (λ (x : Database). run_of_call w.tables x.procedures e.call x.rows) (databases_stay h g even more e.call.snapshot le) in
     let looks : e.looks ≡ (run_begun w h e.call).looks = carry.0 ∙ ap (λ (r : Run). r.looks) stays in
     let writes : e.writes ≡ (run_begun w h e.call).writes = carry.1 ∙ ap (λ (r : Run). r.writes) stays in
     let last = last_is h (certified_item w h (CallItem e.call)) (database_after_item w h (CallItem e.call) (certified_item w h (CallItem e.call)).verdict) even in
-    ap (λ l. record { certified = h.certified ++ record { request = e.call.request; writes = e.writes; verdict = verdict_after w.window h.certified e.call l } ∷ []; procedures = (database_now h).procedures }) looks
-    ∙ ap (λ x. record { certified = h.certified ++ record { request = e.call.request; writes = x; verdict = verdict_at w h e.call } ∷ []; procedures = (database_now h).procedures }) writes
-    ∙ ap (λ (c : CertifiedItem). record { certified = h.certified ++ c ∷ []; procedures = (database_now h).procedures }) (sym (certified_call w h e.call))
-    ∙ ap (λ (x : Database). record { certified = h.certified ++ certified_item w h (CallItem e.call) ∷ []; procedures = x.procedures }) (sym (last ∙ after_call w h e.call (certified_item w h (CallItem e.call)).verdict))
+    ap (λ l. record { done = w.beginning.requests; certified = h.certified ++ record { request = e.call.request; writes = e.writes; verdict = verdict_after w.window w.beginning.requests h.certified e.call l } ∷ []; procedures = (database_now h).procedures }) looks
+    ∙ ap (λ x. record { done = w.beginning.requests; certified = h.certified ++ record { request = e.call.request; writes = x; verdict = verdict_at w h e.call } ∷ []; procedures = (database_now h).procedures }) writes
+    ∙ ap (λ (c : CertifiedItem). record { done = w.beginning.requests; certified = h.certified ++ c ∷ []; procedures = (database_now h).procedures }) (sym (certified_call w h e.call))
+    ∙ ap (λ (x : Database). record { done = w.beginning.requests; certified = h.certified ++ certified_item w h (CallItem e.call) ∷ []; procedures = x.procedures }) (sym (last ∙ after_call w h e.call (certified_item w h (CallItem e.call)).verdict))
 one_entry w h g (AdditionEntry p) even more le carry =
     let last = last_is h (certified_item w h (AdditionItem p)) (database_after_item w h (AdditionItem p) (certified_item w h (AdditionItem p)).verdict) even in
-    ap (λ (c : CertifiedItem). record { certified = h.certified ++ c ∷ []; procedures = if_commits c.verdict ((database_now h).procedures ++ p ∷ []) (database_now h).procedures }) (sym (certified_added w h p))
-    ∙ ap (λ (x : Database). record { certified = h.certified ++ certified_item w h (AdditionItem p) ∷ []; procedures = x.procedures }) (sym (last ∙ after_addition w h p (certified_item w h (AdditionItem p)).verdict))
+    ap (λ (c : CertifiedItem). record { done = w.beginning.requests; certified = h.certified ++ c ∷ []; procedures = if_commits c.verdict ((database_now h).procedures ++ p ∷ []) (database_now h).procedures }) (sym (certified_added w h p))
+    ∙ ap (λ (x : Database). record { done = w.beginning.requests; certified = h.certified ++ certified_item w h (AdditionItem p) ∷ []; procedures = x.procedures }) (sym (last ∙ after_addition w h p (certified_item w h (AdditionItem p)).verdict))
 
 certified_from : (w : Setting) (h : History) (n : ℕ) (entries : List Entry) (g : History) → Even h → length h.certified ≡ n → IsLogFrom n (items_of entries)
-    → fold (with_item w) h (items_of entries) ≡ g → AllByRecursion (CarriedIn w g) entries → fold (with_entry w.window) (so_far h) entries ≡ so_far g
-certified_from w h n [] g even count below is carry = ap so_far is
+    → fold (with_item w) h (items_of entries) ≡ g → AllByRecursion (CarriedIn w g) entries → fold (with_entry w.window) (so_far w h) entries ≡ so_far w g
+certified_from w h n [] g even count below is carry = ap (so_far w) is
 certified_from w h n (e ∷ entries) g even count below is carry =
     let more : Grows h g = subst (λ (x : History). Grows h x) is (grows w h (items_of (e ∷ entries))) in
     ap (λ (x : CertifiedEntries). fold (with_entry w.window) x entries) (one_entry w h g e even more (placed_as (length h.certified) n (item_of e) count below.0) carry.0)
@@ -383,23 +382,23 @@ carried : (w : Setting) (log : Log) (entries : List Entry) → AllByRecursion (I
 carried w log [] h = tt
 carried w log (e ∷ entries) h = (carried_one w log e h.0, carried w log entries h.1)
 
-certified_whole : (w : Setting) (entries : List Entry) → IsLog (items_of entries) → CarryRuns w entries → certified_entries_of w.window w.catalogue entries ≡ so_far (history w (items_of entries))
+certified_whole : (w : Setting) (entries : List Entry) → IsLog (items_of entries) → CarryRuns w entries → certified_entries_of w.window w.beginning entries ≡ so_far w (history w (items_of entries))
 unfolding history certified_entries_of
 certified_whole w entries below carry = certified_from w (start w) 0 entries (history w (items_of entries)) refl refl below refl (carried w (items_of entries) entries carry)
 
-pub certified_by_entries : (w : Setting) (entries : List Entry) → IsLog (items_of entries) → CarryRuns w entries → (certified_entries_of w.window w.catalogue entries).certified ≡ (history w (items_of entries)).certified
+pub certified_by_entries : (w : Setting) (entries : List Entry) → IsLog (items_of entries) → CarryRuns w entries → (certified_entries_of w.window w.beginning entries).certified ≡ (history w (items_of entries)).certified
 certified_by_entries w entries below carry = ap (λ (x : CertifiedEntries). x.certified) (certified_whole w entries below carry)
 
-pub procedures_by_entries : (w : Setting) (entries : List Entry) → IsLog (items_of entries) → CarryRuns w entries → (certified_entries_of w.window w.catalogue entries).procedures ≡ procedures_after w (items_of entries) (length entries)
+pub procedures_by_entries : (w : Setting) (entries : List Entry) → IsLog (items_of entries) → CarryRuns w entries → (certified_entries_of w.window w.beginning entries).procedures ≡ procedures_after w (items_of entries) (length entries)
 procedures_by_entries w entries below carry =
     ap (λ (x : CertifiedEntries). x.procedures) (certified_whole w entries below carry)
     ∙ ap (λ (k : ℕ). procedures_after w (items_of entries) k) (count_history w (items_of entries) ∙ length-map entries item_of)
 
-pub rows_by_entries : (w : Setting) (entries : List Entry) (p : ℕ) → HasSafeProcedures w → IsLog (items_of entries) → AllFitLog w (items_of entries) → CarryRuns w entries → p ≤ length entries
-    → rows_laid_on (certified_entries_of w.window w.catalogue entries).certified p ≡ rows_after w (items_of entries) p
+pub rows_by_entries : (w : Setting) (entries : List Entry) (p : ℕ) → BeginsSafely w → IsLog (items_of entries) → AllFitLog w (items_of entries) → CarryRuns w entries → p ≤ length entries
+    → rows_laid_on w.beginning.rows (certified_entries_of w.window w.beginning entries).certified p ≡ rows_after w (items_of entries) p
 rows_by_entries w entries p safe below items carry le =
     let count = count_history w (items_of entries) in
     let many : length (items_of entries) ≡ length entries = length-map entries item_of in
     let le : p ≤ length (history w (items_of entries)).certified = omega arith in
-    ap (λ (l : List CertifiedItem). rows_laid_on l p) (certified_by_entries w entries below carry)
+    ap (λ (l : List CertifiedItem). rows_laid_on w.beginning.rows l p) (certified_by_entries w entries below carry)
     ∙ sym ((history_kept w (items_of entries) safe below items).laid_on p le)

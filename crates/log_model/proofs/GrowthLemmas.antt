@@ -5,7 +5,7 @@ use Rattle.std.proofs.lemmas.List.Sums.{fold-append}
 use Rattle.schema.specs.Rows.{AreRows}
 use Rattle.log_model.specs.declared.verdict.Verdict.{Verdict}
 use Rattle.log_model.specs.Log.{by_number, Setting, Call, Log, IsLogFrom, IsLog, History, start, history, rows_after, verdict_of, verdict_in, moment_of, moment_at, run_of_call, run_in, StoredProcedure, Catalogue, verdict_on_addition, if_commits, Item, CallItem, AdditionItem, IsPlaced, CertifiedItem, Database, database_at, with_item, procedures_after}
-use Rattle.log_model.specs.Fit.{HasSafeProcedures, IsCall, AreSafe, IsCallOf, IsItem, AreItems, FitsProcedures, FitsLog, AllFitLog}
+use Rattle.log_model.specs.Fit.{BeginsSafely, IsCall, AreSafe, IsCallOf, IsItem, AreItems, FitsProcedures, FitsLog, AllFitLog}
 use Rattle.log_model.proofs.CallLemmas.{Grows, grows, Even, count_history, history_kept, databases_stay, even_with_item, items_fit, procedures_next, procedures_after_addition}
 use Rattle.log_model.specs.declared.verdict.Verdict.TheVariants.{Commit, Conflict, Stale, Repeated, Taken}
 use Rattle.log_model.proofs.AdditionLemmas.{addition_verdict}
@@ -49,13 +49,13 @@ pub moment_grown : (w : Setting) (log more : Log) (call : Call) (k : ℕ) → ca
 unfolding moment_at
 moment_grown w log more call k le = ap (λ (d : Database). moment_of w.tables (by_number d.procedures call.procedure) call.args d.rows k) (database_grown w log more call.snapshot le)
 
-pub rows_where_fit : (w : Setting) (log : Log) (p : ℕ) → HasSafeProcedures w → IsLog log → AllFitLog w log → p ≤ length log → AreRows w.tables (rows_after w log p)
+pub rows_where_fit : (w : Setting) (log : Log) (p : ℕ) → BeginsSafely w → IsLog log → AllFitLog w log → p ≤ length log → AreRows w.tables (rows_after w log p)
 rows_where_fit w log p safe below items le = let count = count_history w log in (history_kept w log safe below items).fit p (omega arith)
 
-pub rows_fit : (w : Setting) (log : Log) (p : ℕ) → HasSafeProcedures w → IsLog log → AreItems w log → p ≤ length log → AreRows w.tables (rows_after w log p)
+pub rows_fit : (w : Setting) (log : Log) (p : ℕ) → BeginsSafely w → IsLog log → AreItems w log → p ≤ length log → AreRows w.tables (rows_after w log p)
 rows_fit w log p safe below items le = rows_where_fit w log p safe below (items_fit w log items) le
 
-pub procedures_safe : (w : Setting) (log : Log) (p : ℕ) → HasSafeProcedures w → IsLog log → AreItems w log → p ≤ length log → AreSafe w.tables (procedures_after w log p)
+pub procedures_safe : (w : Setting) (log : Log) (p : ℕ) → BeginsSafely w → IsLog log → AreItems w log → p ≤ length log → AreSafe w.tables (procedures_after w log p)
 procedures_safe w log p safe below items le = let count = count_history w log in (history_kept w log safe below (items_fit w log items)).safe p (omega arith)
 
 -- ---- one more item

@@ -7,14 +7,14 @@ use Rattle.std.proofs.Math.ListN.{get_or-append}
 use Rattle.std.proofs.Math.Seq.{get_or-append_seam, take-length}
 use Rattle.schema.specs.Schema.{Tables}
 use Rattle.schema.specs.Rows.{Rows, Writes, AreRows}
-use Rattle.schema.proofs.RowsLemmas.{no_rows, after_writes-empty}
+use Rattle.schema.proofs.RowsLemmas.{after_writes-empty}
 use Rattle.bpf_semantics.specs.Run.{Run}
 use Rattle.bpf_semantics.specs.Agree.{same_on, AreElsewhere, after_each}
 use Rattle.log_model.specs.declared.verdict.Verdict.{Verdict}
 use Rattle.log_model.specs.declared.verdict.Verdict.TheVariants.{Commit, Conflict, Stale, Repeated, Taken}
-use Rattle.log_model.specs.Log.{StoredProcedure, Catalogue, Setting, Call, Item, CallItem, AdditionItem, IsPlaced, by_number, CertifiedItem, verdict_after, Database, first_database, History, start, database_at, database_now, with_certified, if_commits, run_at, certified_item, database_after_item, with_item}
+use Rattle.log_model.specs.Log.{StoredProcedure, Catalogue, Setting, Call, Item, CallItem, AdditionItem, IsPlaced, by_number, CertifiedItem, verdict_after, Database, no_database, History, start, database_at, database_now, with_certified, if_commits, run_at, certified_item, database_after_item, with_item}
 use Rattle.log_model.proofs.Laid.{installed_writes, rows_laid_on}
-use Rattle.log_model.specs.Fit.{IsSafe, AreSafe, HasSafeProcedures, FitsProcedures}
+use Rattle.log_model.specs.Fit.{IsSafe, AreSafe, BeginsSafely, FitsProcedures}
 use Rattle.log_model.proofs.RunLemmas.{just, same_run, effect_fits}
 use Rattle.log_model.proofs.VerdictLemmas.{committed_apart, installed_writes-append, after_each-append}
 
@@ -25,15 +25,15 @@ use Rattle.log_model.proofs.VerdictLemmas.{committed_apart, installed_writes-app
 pub record IsKept (w : Setting) (h : History) : Type 0 where
   pub even : length h.databases ≡ suc (length h.certified)
   pub fit : (p : ℕ) → p ≤ length h.certified → AreRows w.tables (database_at h p).rows
-  pub laid_on : (p : ℕ) → p ≤ length h.certified → (database_at h p).rows ≡ rows_laid_on h.certified p
+  pub laid_on : (p : ℕ) → p ≤ length h.certified → (database_at h p).rows ≡ rows_laid_on w.beginning.rows h.certified p
   pub safe : (p : ℕ) → p ≤ length h.certified → AreSafe w.tables (database_at h p).procedures
 
-pub start_kept : (w : Setting) → HasSafeProcedures w → IsKept w (start w)
+pub start_kept : (w : Setting) → BeginsSafely w → IsKept w (start w)
 start_kept w safe = record {
   even = refl;
-  fit = λ p le. let same : p ≡ 0 = omega arith in subst (λ (k : ℕ). AreRows w.tables (database_at (start w) k).rows) (sym same) (no_rows w.tables);
-  laid_on = λ p le. let same : p ≡ 0 = omega arith in subst (λ (k : ℕ). (database_at (start w) k).rows ≡ rows_laid_on [] k) (sym same) refl;
-  safe = λ p le. let same : p ≡ 0 = omega arith in subst (λ (k : ℕ). AreSafe w.tables (database_at (start w) k).procedures) (sym same) safe;
+  fit = λ p le. let same : p ≡ 0 = omega arith in subst (λ (k : ℕ). AreRows w.tables (database_at (start w) k).rows) (sym same) safe.rows;
+  laid_on = λ p le. let same : p ≡ 0 = omega arith in subst (λ (k : ℕ). (database_at (start w) k).rows ≡ rows_laid_on w.beginning.rows [] k) (sym same) refl;
+  safe = λ p le. let same : p ≡ 0 = omega arith in subst (λ (k : ℕ). AreSafe w.tables (database_at (start w) k).procedures) (sym same) safe.procedures;
 }
 
 -- what a run saw, and what it wrote
@@ -41,7 +41,7 @@ abbrev pub run_begun : Setting → History → Call → Run
 run_begun w h call = run_at w h call (database_at h call.snapshot).rows
 
 abbrev pub verdict_at : Setting → History → Call → Verdict
-verdict_at w h call = verdict_after w.window h.certified call (run_begun w h call).looks
+verdict_at w h call = verdict_after w.window w.beginning.requests h.certified call (run_begun w h call).looks
 
 abbrev pub procedures_begun : History → Call → Catalogue
 procedures_begun h call = (database_at h call.snapshot).procedures
@@ -49,20 +49,20 @@ procedures_begun h call = (database_at h call.snapshot).procedures
 -- the rows now are those of a snapshot, with the write sets installed since then laid on
 pub rows_since : (w : Setting) (h : History) (s : ℕ) → IsKept w h → s ≤ length h.certified → (database_now h).rows ≡ after_each (installed_writes (drop s h.certified)) (database_at h s).rows
 rows_since w h s kept le =
-    let now : (database_now h).rows ≡ after_each (installed_writes h.certified) empty =
-    kept.laid_on (length h.certified) (omega arith) ∙ ap (λ (l : List CertifiedItem). after_each (installed_writes l) empty) (take-length h.certified) in
+    let now : (database_now h).rows ≡ after_each (installed_writes h.certified) w.beginning.rows =
+    kept.laid_on (length h.certified) (omega arith) ∙ ap (λ (l : List CertifiedItem). after_each (installed_writes l) w.beginning.rows) (take-length h.certified) in
     let parts : installed_writes h.certified ≡ installed_writes (take s h.certified) ++ installed_writes (drop s h.certified) =
     ap installed_writes (sym (take-append-drop s h.certified)) ∙ installed_writes-append (take s h.certified) (drop s h.certified) in
     now
-    ∙ ap (λ (l : List Writes). after_each l empty) parts
-    ∙ after_each-append (installed_writes (take s h.certified)) (installed_writes (drop s h.certified)) empty
+    ∙ ap (λ (l : List Writes). after_each l w.beginning.rows) parts
+    ∙ after_each-append (installed_writes (take s h.certified)) (installed_writes (drop s h.certified)) w.beginning.rows
     ∙ ap (after_each (installed_writes (drop s h.certified))) (sym (kept.laid_on s le))
 
 -- the run of a call that commits is the same on the rows now, but for its effect
 pub serial : (w : Setting) (h : History) (call : Call) → IsKept w h → FitsProcedures (procedures_begun h call) call → call.snapshot ≤ length h.certified → verdict_at w h call ≡ Commit
     → run_at w h call (database_now h).rows ≡ same_on (database_now h).rows (run_begun w h call)
 serial w h call kept c le commit =
-    let apart = All-from_recursion (AreElsewhere (run_begun w h call).looks) (installed_writes (drop call.snapshot h.certified)) (committed_apart w.window h.certified call (run_begun w h call).looks commit) in
+    let apart = All-from_recursion (AreElsewhere (run_begun w h call).looks) (installed_writes (drop call.snapshot h.certified)) (committed_apart w.window w.beginning.requests h.certified call (run_begun w h call).looks commit) in
     subst (λ (rows : Rows). run_at w h call rows ≡ same_on rows (run_begun w h call)) (sym (rows_since w h call.snapshot kept le))
     (same_run w.tables (procedures_begun h call) call (database_at h call.snapshot).rows (installed_writes (drop call.snapshot h.certified)) (kept.safe call.snapshot le) c (kept.fit call.snapshot le) apart)
 
@@ -89,13 +89,13 @@ snoc_kept w h c d kept fits is safe =
     let count_databases : length (h.databases ++ d ∷ []) ≡ length h.databases + 1 = length-append h.databases (d ∷ []) in
     let even = kept.even in
     let last : database_at (with_certified h c d) (suc (length h.certified)) ≡ d =
-    ap (λ (k : ℕ). get_or (h.databases ++ d ∷ []) k (first_database [])) (sym even) ∙ get_or-append_seam h.databases d [] (first_database []) in
-    let before = λ (p : ℕ) (lt : p ≤ length h.certified). let inside : p < length h.databases = omega arith in get_or-append h.databases (d ∷ []) (first_database []) p inside in
-    let all : rows_laid_on (h.certified ++ c ∷ []) (suc (length h.certified)) ≡ d.rows =
-    ap (λ (l : List CertifiedItem). after_each (installed_writes l) empty) (ap (λ (k : ℕ). take k (h.certified ++ c ∷ [])) (let e : suc (length h.certified) ≡ length (h.certified ++ c ∷ []) = omega arith in e) ∙ take-length (h.certified ++ c ∷ []))
-    ∙ ap (λ (l : List Writes). after_each l empty) (installed_writes-append h.certified (c ∷ []))
-    ∙ after_each-append (installed_writes h.certified) (installed_writes (c ∷ [])) empty
-    ∙ ap (after_each (installed_writes (c ∷ []))) (sym (kept.laid_on (length h.certified) (omega arith) ∙ ap (λ (l : List CertifiedItem). after_each (installed_writes l) empty) (take-length h.certified)))
+    ap (λ (k : ℕ). get_or (h.databases ++ d ∷ []) k no_database) (sym even) ∙ get_or-append_seam h.databases d [] no_database in
+    let before = λ (p : ℕ) (lt : p ≤ length h.certified). let inside : p < length h.databases = omega arith in get_or-append h.databases (d ∷ []) no_database p inside in
+    let all : rows_laid_on w.beginning.rows (h.certified ++ c ∷ []) (suc (length h.certified)) ≡ d.rows =
+    ap (λ (l : List CertifiedItem). after_each (installed_writes l) w.beginning.rows) (ap (λ (k : ℕ). take k (h.certified ++ c ∷ [])) (let e : suc (length h.certified) ≡ length (h.certified ++ c ∷ []) = omega arith in e) ∙ take-length (h.certified ++ c ∷ []))
+    ∙ ap (λ (l : List Writes). after_each l w.beginning.rows) (installed_writes-append h.certified (c ∷ []))
+    ∙ after_each-append (installed_writes h.certified) (installed_writes (c ∷ [])) w.beginning.rows
+    ∙ ap (after_each (installed_writes (c ∷ []))) (sym (kept.laid_on (length h.certified) (omega arith) ∙ ap (λ (l : List CertifiedItem). after_each (installed_writes l) w.beginning.rows) (take-length h.certified)))
     ∙ sym is in
     let either = λ (p : ℕ) (le : p ≤ length (h.certified ++ c ∷ [])). cases p (length h.certified) (omega arith) in
     record {
@@ -105,8 +105,8 @@ snoc_kept w h c d kept fits is safe =
         | inr new ↦ subst (λ (k : ℕ). AreRows w.tables (database_at (with_certified h c d) k).rows) (sym new) (subst (λ (x : Database). AreRows w.tables x.rows) (sym last) fits)
       ];
       laid_on = λ p le. elim (either p le) [
-        | inl old ↦ ap (λ (x : Database). x.rows) (before p old) ∙ kept.laid_on p old ∙ ap (λ (l : List CertifiedItem). after_each (installed_writes l) empty) (sym (take-append-le p h.certified (c ∷ []) old))
-        | inr new ↦ subst (λ (k : ℕ). (database_at (with_certified h c d) k).rows ≡ rows_laid_on (h.certified ++ c ∷ []) k) (sym new) (ap (λ (x : Database). x.rows) last ∙ sym all)
+        | inl old ↦ ap (λ (x : Database). x.rows) (before p old) ∙ kept.laid_on p old ∙ ap (λ (l : List CertifiedItem). after_each (installed_writes l) w.beginning.rows) (sym (take-append-le p h.certified (c ∷ []) old))
+        | inr new ↦ subst (λ (k : ℕ). (database_at (with_certified h c d) k).rows ≡ rows_laid_on w.beginning.rows (h.certified ++ c ∷ []) k) (sym new) (ap (λ (x : Database). x.rows) last ∙ sym all)
       ];
       safe = λ p le. elim (either p le) [
         | inl old ↦ subst (λ (x : Database). AreSafe w.tables x.procedures) (sym (before p old)) (kept.safe p old)

@@ -1,6 +1,5 @@
--- The rows after each position by the write sets of those that committed.
+-- The rows after each position, by those at first and the write sets of those that committed.
 use Rattle.std.specs.Prelude.{ℕ, List, [], ◌∷◌, if◌then◌else◌, take}
-use Rattle.std.specs.FinMap.{empty}
 use Rattle.schema.specs.Rows.{Rows, Writes}
 use Rattle.bpf_semantics.specs.Agree.{after_each}
 use Rattle.log_model.specs.Log.{CertifiedItem, is_commit}
@@ -9,5 +8,5 @@ abbrev pub installed_writes : List CertifiedItem → List Writes
 installed_writes [] = []
 installed_writes (c ∷ later) = if is_commit c.verdict then c.writes ∷ installed_writes later else installed_writes later
 
-abbrev pub rows_laid_on : List CertifiedItem → ℕ → Rows
-rows_laid_on certified position = after_each (installed_writes (take position certified)) empty
+abbrev pub rows_laid_on : Rows → List CertifiedItem → ℕ → Rows
+rows_laid_on rows certified position = after_each (installed_writes (take position certified)) rows

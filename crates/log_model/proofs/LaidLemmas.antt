@@ -1,6 +1,5 @@
 -- Numbered write sets, laid on up to a position.
 use Rattle.std.proofs.Common.{◌≡◌, ℕ, zero, suc, ◌+◌, ◌≤◌, ◌<◌, true, false, cond, List, [], ◌∷◌, ◌++◌, take, nat_le, fold, refl, ap, ◌∙◌, arith}
-use Rattle.std.specs.FinMap.{empty}
 use Rattle.std.proofs.lemmas.Bool.Decides.{nat_tests}
 use Rattle.schema.specs.Rows.{Rows, after_writes}
 use Rattle.bpf_semantics.specs.Agree.{after_each}
@@ -32,6 +31,6 @@ within position n (suc k) (c ∷ cs) rows e = elim (is_commit c.verdict) as (λ 
   | false ↦ within position (n + 1) k cs rows (omega arith)
 ]
 
-pub map_is_laid_on : (cs : List CertifiedItem) (position : ℕ) → map_after (installed_from 1 cs) position ≡ rows_laid_on cs position
+pub map_is_laid_on : (rows : Rows) (cs : List CertifiedItem) (position : ℕ) → map_after rows (installed_from 1 cs) position ≡ rows_laid_on rows cs position
 unfolding map_after
-map_is_laid_on cs position = within position 1 position cs empty (omega arith)
+map_is_laid_on rows cs position = within position 1 position cs rows (omega arith)

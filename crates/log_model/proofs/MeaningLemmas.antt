@@ -11,9 +11,10 @@ use Rattle.schema.proofs.ShareLemmas.{shared as key_shared, shares as key_shares
 use Rattle.log_model.specs.declared.request.RequestId.{RequestId}
 use Rattle.log_model.specs.declared.verdict.Verdict.{Verdict}
 use Rattle.log_model.specs.declared.verdict.Verdict.TheVariants.{Commit, Conflict, Stale, Repeated, Taken}
-use Rattle.log_model.specs.Log.{Setting, Call, Item, CallItem, AdditionItem, Log, IsLog, same_request, CertifiedItem, is_commit, conflicts, repeats, first_position, first_repeated, unless_repeated, unless_conflict, verdict_after, certified_addition, history, procedures_after, verdict_of, run_in}
-use Rattle.log_model.specs.Verdicts.{WroteWhatWasRead, IsConflict, IsLeastConflict, IsRepetition, IsNew}
+use Rattle.log_model.specs.Log.{Setting, Call, Item, CallItem, AdditionItem, Log, IsLog, same_request, was_done, CertifiedItem, is_commit, conflicts, repeats, first_position, first_repeated, unless_repeated, unless_conflict, verdict_after, certified_addition, history, procedures_after, verdict_of, run_in}
+use Rattle.log_model.specs.Verdicts.{WroteWhatWasRead, IsConflict, IsLeastConflict, IsRepetition, IsRepeated, IsNew}
 use Rattle.log_model.proofs.RunLemmas.{just}
+use Rattle.log_model.proofs.VerdictLemmas.{none_here}
 use Rattle.log_model.proofs.CallLemmas.{certified_is, addition_is, count_history}
 
 -- ---- a shared key
@@ -183,7 +184,7 @@ conflicts_there w log call number d below way =
     let back : call.snapshot + (wrote.before - call.snapshot) ≡ wrote.before = omega arith in
     let lt : wrote.before < d = omega arith in
     let known = certified_is w log wrote.before wrote.call below wrote.stands in
-    let c : CertifiedItem = record { request = wrote.call.request; writes = (run_in w log wrote.call).writes; verdict = verdict_after w.window (take wrote.before (history w log).certified) wrote.call (run_in w log wrote.call).looks } in
+    let c : CertifiedItem = record { request = wrote.call.request; writes = (run_in w log wrote.call).writes; verdict = verdict_after w.window w.beginning.requests (take wrote.before (history w log).certified) wrote.call (run_in w log wrote.call).looks } in
     let verdict : c.verdict ≡ Commit = some_is _ Commit (sym (ap (option_map (λ (x : CertifiedItem). x.verdict)) known) ∙ sym (ap (verdict_of w log) wrote.place) ∙ wrote.committed) in
     let share : shares_key (run_in w log call).looks (run_in w log wrote.call).writes ≡ true = shares (run_in w log call).looks (run_in w log wrote.call).writes (record { key = wrote.key; looked_at = wrote.looked_at; written = wrote.written }) in (
       wrote.before - call.snapshot,
@@ -241,31 +242,50 @@ repeats_there w log call number d below x =
     let earlier = x.earlier in
     let lt : x.before < d = omega arith in
     let known = certified_is w log x.before x.first below x.stands in
-    let c : CertifiedItem = record { request = x.first.request; writes = (run_in w log x.first).writes; verdict = verdict_after w.window (take x.before (history w log).certified) x.first (run_in w log x.first).looks } in
+    let c : CertifiedItem = record { request = x.first.request; writes = (run_in w log x.first).writes; verdict = verdict_after w.window w.beginning.requests (take x.before (history w log).certified) x.first (run_in w log x.first).looks } in
     let verdict : c.verdict ≡ Commit = some_is _ Commit (sym (ap (option_map (λ (y : CertifiedItem). y.verdict)) known) ∙ sym (ap (verdict_of w log) x.place) ∙ x.committed) in
     (c, get_take (history w log).certified d x.before lt ∙ known, ap (λ (v : Verdict). is_commit v && same_request call.request x.first.request) verdict ∙ x.same)
 
 abbrev pub repeated_in : Setting → Log → ℕ → Call → Option ℕ
-repeated_in w log d call = first_repeated (take d (history w log).certified) call
+repeated_in w log d call = first_repeated w.beginning.requests (take d (history w log).certified) call
 
-pub first_is_repeated : (w : Setting) (log : Log) (d : ℕ) (call : Call) (number : ℕ) → IsLog log → repeated_in w log d call ≡ just number → IsRepetition w log call number (suc d)
-first_is_repeated w log d call number below e =
+-- the position of the committed call that carries the request
+abbrev repeated_since : Setting → Log → ℕ → Call → Option ℕ
+repeated_since w log d call = first_position (repeats call.request) 1 (take d (history w log).certified)
+
+is_repetition : (w : Setting) (log : Log) (d : ℕ) (call : Call) (number : ℕ) → IsLog log → repeated_since w log d call ≡ just number → IsRepetition w log call number (suc d)
+is_repetition w log d call number below e =
     let first = first_some (repeats call.request) 1 (take d (history w log).certified) number e in
     let at = first.2 in
     let place : number ≡ suc first.0 = (let is = first.1 in omega arith) in
     subst (λ (n : ℕ). IsRepetition w log call n (suc d)) (sym place) (repeated_there w log call d first.0 at.c below at.stands at.is)
 
+pub first_is_repeated : (w : Setting) (log : Log) (d : ℕ) (call : Call) (number : ℕ) → IsLog log → repeated_in w log d call ≡ just number → IsRepeated w log call number (suc d)
+first_is_repeated w log d call number below e = by (was_done w.beginning.requests call.request) refl e
+  where
+    by : (b : Bool) → was_done w.beginning.requests call.request ≡ b → cond b (just 0) (repeated_since w log d call) ≡ just number → IsRepeated w log call number (suc d)
+    by true done found = inl (done, sym (some_is 0 number found))
+    by false new found = inr (is_repetition w log d call number below found)
+
 pub none_is_new : (w : Setting) (log : Log) (d : ℕ) (call : Call) → IsLog log → repeated_in w log d call ≡ None → IsNew w log call (suc d)
-none_is_new w log d call below e number x =
-    let there = repeats_there w log call number d below x in
-    contradiction (repeats call.request there.0) there.2 (first_none (repeats call.request) 1 (take d (history w log).certified) e x.before there.0 there.1)
+none_is_new w log d call below e =
+    let parts = none_here (was_done w.beginning.requests call.request) 0 (repeated_since w log d call) e in
+    record {
+      not_before = λ done. contradiction (was_done w.beginning.requests call.request) done parts.0;
+      first = λ number x.
+          let there = repeats_there w log call number d below x in
+          contradiction (repeats call.request there.0) there.2 (first_none (repeats call.request) 1 (take d (history w log).certified) parts.1 x.before there.0 there.1);
+    }
 
 pub new_is_none : (w : Setting) (log : Log) (d : ℕ) (call : Call) → IsLog log → IsNew w log call (suc d) → repeated_in w log d call ≡ None
 new_is_none w log d call below new = none (repeated_in w log d call) refl
   where
     none : (o : Option ℕ) → repeated_in w log d call ≡ o → repeated_in w log d call ≡ None
     none None e = e
-    none (Some number) e = absurd (new number (first_is_repeated w log d call number below e))
+    none (Some number) e = elim (first_is_repeated w log d call number below e) [
+      | inl done ↦ absurd (new.not_before done.0)
+      | inr x ↦ absurd (new.first number x)
+    ]
 
 -- ---- the verdict
 

@@ -4,8 +4,8 @@ use Rattle.std.proofs.lemmas.Bool.{and_parts, and_from}
 use Rattle.std.proofs.lemmas.Bool.Decides.{nat_tests}
 use Rattle.log_model.specs.declared.request.RequestId.{RequestId}
 use Rattle.log_model.specs.declared.verdict.Verdict.TheVariants.{Commit, Stale, Repeated}
-use Rattle.log_model.specs.Log.{Setting, Call, CallItem, Log, IsLog, same_request, unless_repeated, unless_conflict, verdict_of}
-use Rattle.log_model.specs.Verdicts.{IsRepetition}
+use Rattle.log_model.specs.Log.{Setting, Call, CallItem, Log, IsLog, same_request, was_done, unless_repeated, unless_conflict, verdict_of}
+use Rattle.log_model.specs.Verdicts.{IsDoneBefore, IsRepeated, IsRepetition}
 use Rattle.log_model.proofs.RunLemmas.{just}
 use Rattle.log_model.proofs.MeaningLemmas.{first_of_log, verdict_known, repeated_in, first_is_repeated, none_is_new, repeated_of, commit_is}
 
@@ -54,7 +54,7 @@ meet a b c e f =
 -- the later one would repeat the earlier
 earlier : (w : Setting) (log : Log) (d e : ℕ) (a b : Call) → IsLog log → slice_get log d ≡ just (CallItem a) → slice_get log e ≡ just (CallItem b) → verdict_of w log (suc d) ≡ just Commit → verdict_of w log (suc e) ≡ just Commit → same_request b.request a.request ≡ true → d < e → ⊥
 earlier w log d e a b below x y u v same lt =
-    (commit_is w log e b below y v).0 (suc d) (record { earlier = omega arith; before = d; place = refl; first = a; stands = x; committed = u; same = same })
+    (commit_is w log e b below y v).0.first (suc d) (record { earlier = omega arith; before = d; place = refl; first = a; stands = x; committed = u; same = same })
 
 order_of : (d e : ℕ) → (d < e) ⊎ (e < d) ⊎ (d ≡ e)
 order_of d e = elim (nat_le (suc d) e) as (λ b. nat_le (suc d) e ≡ b → (d < e) ⊎ (e < d) ⊎ (d ≡ e)) [
@@ -79,17 +79,34 @@ same_repetition w log call m n later below x y =
     (meet call.request x.first.request y.first.request x.same y.same) in
     x.place ∙ ap suc one ∙ sym y.place
 
-repeated_is : (w : Setting) (log : Log) (d : ℕ) (call : Call) (position : ℕ) → IsLog log → slice_get log d ≡ just (CallItem call) → verdict_of w log (suc d) ≡ just (Repeated position) → IsRepetition w log call position (suc d)
+-- what a committed call repeats wasn't done before the log
+done_first : (w : Setting) (log : Log) (call : Call) (n later : ℕ) → IsLog log → IsDoneBefore w call → IsRepetition w log call n later → ⊥
+done_first w log call n later below done x =
+    (commit_is w log x.before x.first below x.stands (ap (verdict_of w log) (sym x.place) ∙ x.committed)).0.not_before
+    (ap (was_done w.beginning.requests) (sym (same_given call.request x.first.request x.same).0) ∙ done)
+
+same_position : (w : Setting) (log : Log) (call : Call) (m n later : ℕ) → IsLog log → IsRepeated w log call m later → IsRepeated w log call n later → m ≡ n
+same_position w log call m n later below (inl a) (inl b) = a.1 ∙ sym b.1
+same_position w log call m n later below (inl a) (inr y) = absurd (done_first w log call n later below a.0 y)
+same_position w log call m n later below (inr x) (inl b) = absurd (done_first w log call m later below b.0 x)
+same_position w log call m n later below (inr x) (inr y) = same_repetition w log call m n later below x y
+
+pub not_before : (w : Setting) (log : Log) (d : ℕ) (call : Call) → IsLog log → slice_get log d ≡ Some (CallItem call) → verdict_of w log (suc d) ≡ Some Commit → IsDoneBefore w call → ⊥
+not_before w log d call below at committed = (commit_is w log d call below at committed).0.not_before
+
+repeated_is : (w : Setting) (log : Log) (d : ℕ) (call : Call) (position : ℕ) → IsLog log → slice_get log d ≡ just (CallItem call) → verdict_of w log (suc d) ≡ just (Repeated position) → IsRepeated w log call position (suc d)
 repeated_is w log d call position below e v = first_is_repeated w log d call position below (repeated_of (repeated_in w log d call) _ _ position (sym (verdict_known w log d call below e) ∙ v))
 
-is_repeated : (w : Setting) (log : Log) (d : ℕ) (call : Call) (position : ℕ) → IsLog log → slice_get log d ≡ just (CallItem call) → IsRepetition w log call position (suc d) → verdict_of w log (suc d) ≡ just (Repeated position)
+is_repeated : (w : Setting) (log : Log) (d : ℕ) (call : Call) (position : ℕ) → IsLog log → slice_get log d ≡ just (CallItem call) → IsRepeated w log call position (suc d) → verdict_of w log (suc d) ≡ just (Repeated position)
 is_repeated w log d call position below e x = by (repeated_in w log d call) refl
   where
     by : (o : Option ℕ) → repeated_in w log d call ≡ o → verdict_of w log (suc d) ≡ just (Repeated position)
-    by None none = absurd (none_is_new w log d call below none position x)
+    by None none =
+        let new = none_is_new w log d call below none in
+        elim x [ inl done ↦ absurd (new.not_before done.0) | inr repetition ↦ absurd (new.first position repetition) ]
     by (Some m) some =
-        let same = same_repetition w log call m position (suc d) below (first_is_repeated w log d call m below some) x in
+        let same = same_position w log call m position (suc d) below (first_is_repeated w log d call m below some) x in
         verdict_known w log d call below e ∙ ap (λ (o : Option ℕ). just (unless_repeated o (cond (nat_le (d - call.snapshot) w.window) (unless_conflict (first_of_log w log d call)) Stale))) some ∙ ap (λ (n : ℕ). just (Repeated n)) same
 
-pub repeated_means : (w : Setting) (log : Log) (d : ℕ) (call : Call) (position : ℕ) → IsLog log → slice_get log d ≡ just (CallItem call) → (verdict_of w log (suc d) ≡ just (Repeated position)) ↔ IsRepetition w log call position (suc d)
+pub repeated_means : (w : Setting) (log : Log) (d : ℕ) (call : Call) (position : ℕ) → IsLog log → slice_get log d ≡ just (CallItem call) → (verdict_of w log (suc d) ≡ just (Repeated position)) ↔ IsRepeated w log call position (suc d)
 repeated_means w log d call position below e = (repeated_is w log d call position below e, is_repeated w log d call position below e)

@@ -6,13 +6,13 @@ use Rattle.schema.specs.Rows.{Rows, Writes, shares_key}
 use Rattle.schema.proofs.ShareLemmas.{apart}
 use Rattle.bpf_semantics.specs.Agree.{AreElsewhere, after_each}
 use Rattle.log_model.specs.declared.verdict.Verdict.TheVariants.{Commit, Stale}
-use Rattle.log_model.specs.Log.{Call, CertifiedItem, is_commit, conflicts, first_position, first_repeated, unless_repeated, unless_conflict, verdict_after}
+use Rattle.log_model.specs.Log.{Call, CertifiedItem, is_commit, conflicts, first_position, DoneRequest, first_repeated, unless_repeated, unless_conflict, verdict_after}
 use Rattle.log_model.proofs.Laid.{installed_writes}
 use Rattle.log_model.proofs.RunLemmas.{just}
 
 -- ---- no conflict
 
-none_here : (b : Bool) (number : ℕ) (o : Option ℕ) → cond b (just number) o ≡ None → (b ≡ false) × (o ≡ None)
+pub none_here : (b : Bool) (number : ℕ) (o : Option ℕ) → cond b (just number) o ≡ None → (b ≡ false) × (o ≡ None)
 none_here true number o e = absurd cc
 none_here false number o e = (refl, e)
 
@@ -34,11 +34,11 @@ commit_of None true (Some number) e = absurd cc
 commit_of None false o e = absurd cc
 
 -- where a call commits, none of those since its snapshot wrote what it looked at
-pub committed_apart : (window : ℕ) (past : List CertifiedItem) (call : Call) (looks : List Look) → verdict_after window past call looks ≡ Commit
+pub committed_apart : (window : ℕ) (done : List DoneRequest) (past : List CertifiedItem) (call : Call) (looks : List Look) → verdict_after window done past call looks ≡ Commit
     → AllByRecursion (AreElsewhere looks) (installed_writes (drop call.snapshot past))
 unfolding verdict_after
-committed_apart window past call looks e =
-    all_apart looks (call.snapshot + 1) (drop call.snapshot past) (commit_of (first_repeated past call) (nat_le (length past - call.snapshot) window) (first_position (conflicts looks) (call.snapshot + 1) (drop call.snapshot past)) e)
+committed_apart window done past call looks e =
+    all_apart looks (call.snapshot + 1) (drop call.snapshot past) (commit_of (first_repeated done past call) (nat_le (length past - call.snapshot) window) (first_position (conflicts looks) (call.snapshot + 1) (drop call.snapshot past)) e)
 
 -- ---- installed_writes write sets, one list after another
 

@@ -4,7 +4,7 @@ use Rattle.std.specs.List.{fold, AllByRecursion}
 use Rattle.schema.specs.declared.look.Look.{Look}
 use Rattle.schema.specs.Rows.{Writes}
 use Rattle.log_model.specs.InstalledWrites.{InstalledWrites}
-use Rattle.log_model.specs.Log.{StoredProcedure, Catalogue, Setting, Call, Item, CallItem, AdditionItem, Log, CertifiedItem, is_commit, if_commits, certified_call_after, certified_addition, run_in}
+use Rattle.log_model.specs.Log.{StoredProcedure, Catalogue, DoneRequest, Beginning, Setting, Call, Item, CallItem, AdditionItem, Log, CertifiedItem, is_commit, if_commits, certified_call_after, certified_addition, run_in}
 
 -- a call with looks, writes and a reply
 pub record ExecutedCall : Type 0 where
@@ -42,13 +42,14 @@ IsCarried w log (AdditionEntry p) = Unit {0}
 abbrev pub CarryRuns : Setting → List Entry → Type 0
 CarryRuns w entries = AllByRecursion (IsCarried w (items_of entries)) entries
 
--- what became of entries, and the procedures after them
+-- what became of entries, the procedures after them, and the requests that were done before the first
 pub record CertifiedEntries : Type 0 where
+  pub done : List DoneRequest
   pub certified : List CertifiedItem
   pub procedures : Catalogue
 
 abbrev pub certified_entry : ℕ → CertifiedEntries → Entry → CertifiedItem
-certified_entry window past (CallEntry e) = certified_call_after window past.certified e.call e.looks e.writes
+certified_entry window past (CallEntry e) = certified_call_after window past.done past.certified e.call e.looks e.writes
 certified_entry window past (AdditionEntry p) = certified_addition past.procedures p
 
 abbrev pub procedures_with : Catalogue → Entry → CertifiedItem → Catalogue
@@ -57,13 +58,18 @@ procedures_with procedures (AdditionEntry p) c = if_commits c.verdict (procedure
 
 abbrev pub with_entry : ℕ → CertifiedEntries → Entry → CertifiedEntries
 with_entry window past e = record {
+  done = past.done;
   certified = past.certified ++ certified_entry window past e ∷ [];
   procedures = procedures_with past.procedures e (certified_entry window past e);
 }
 
--- what becomes of each, by what is shipped alone and the procedures at first
-unfoldable pub certified_entries_of : ℕ → Catalogue → List Entry → CertifiedEntries
-certified_entries_of window procedures entries = fold (with_entry window) (record { certified = []; procedures = procedures }) entries
+-- before the first entry
+abbrev pub none_certified : Beginning → CertifiedEntries
+none_certified beginning = record { done = beginning.requests; certified = []; procedures = beginning.procedures }
+
+-- what becomes of each, by the beginning and what is shipped alone
+unfoldable pub certified_entries_of : ℕ → Beginning → List Entry → CertifiedEntries
+certified_entries_of window beginning entries = fold (with_entry window) (none_certified beginning) entries
 
 -- the write sets of those that committed, under their positions; the first has this position. Those of an addition are empty
 unfoldable pub installed_from : ℕ → List CertifiedItem → List InstalledWrites

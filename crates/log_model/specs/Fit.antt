@@ -23,9 +23,10 @@ IsSafe tables p = (args : List ℕ) (rows : Rows) → AreArguments p args → Ar
 abbrev pub AreSafe : Tables → Catalogue → Type 0
 AreSafe tables procedures = (number : ℕ) (p : StoredProcedure) → by_number procedures number ≡ Some p → IsSafe tables p
 
--- each procedure of the catalogue is safe
-abbrev pub HasSafeProcedures : Setting → Type 0
-HasSafeProcedures w = AreSafe w.tables w.catalogue
+-- a setting begins with safe procedures and rows of its tables
+pub record BeginsSafely (w : Setting) : Type 0 where
+  pub procedures : AreSafe w.tables w.beginning.procedures
+  pub rows : AreRows w.tables w.beginning.rows
 
 -- a call of one of these procedures, with arguments that it takes
 pub record IsCallOf (procedures : Catalogue) (call : Call) : Type 0 where

@@ -34,10 +34,24 @@ by_number catalogue number = find (λ p. p.number == number) catalogue
 abbrev pub by_name : Catalogue → List ℕ → Option StoredProcedure
 by_name catalogue name = find (λ p. bytes_eq p.name name) catalogue
 
+-- a request that was done before the log, with the reply, the procedure's number and the arguments. A session that has done
+-- nothing has one of sequence number 0, which no call carries
+pub record DoneRequest : Type 0 where
+  pub request : RequestId
+  pub reply : ℕ
+  pub procedure : ℕ
+  pub args : List ℕ
+
+-- what a database has before the log
+pub record Beginning : Type 0 where
+  pub rows : Rows
+  pub procedures : Catalogue
+  pub requests : List DoneRequest
+
 -- what all replicas have in common at first
 pub record Setting : Type 0 where
   pub tables : Tables
-  pub catalogue : Catalogue
+  pub beginning : Beginning
   pub window : ℕ
 
 -- a call as it is ordered
@@ -53,6 +67,16 @@ abbrev pub same_request : Option RequestId → Option RequestId → Bool
 same_request None b = false
 same_request (Some a) None = false
 same_request (Some a) (Some b) = a.session == b.session && a.sequence == b.sequence
+
+-- the first done request that is this one
+abbrev pub done_under : List DoneRequest → Option RequestId → Option DoneRequest
+done_under done request = find (λ d. same_request request (Some d.request)) done
+
+abbrev pub was_done : List DoneRequest → Option RequestId → Bool
+was_done done request = is_some (done_under done request)
+
+abbrev pub reply_done : List DoneRequest → Option RequestId → Option ℕ
+reply_done done request = option_map (λ d. d.reply) (done_under done request)
 
 -- what is ordered: a call, or a procedure that is to be added
 pub data Item : Type 0 where
@@ -126,24 +150,27 @@ abbrev pub unless_conflict : Option ℕ → Verdict
 unless_conflict None = Commit
 unless_conflict (Some position) = Conflict position
 
--- the position of the committed call that carries this request
-abbrev pub first_repeated : List CertifiedItem → Call → Option ℕ
-first_repeated past call = first_position (repeats call.request) 1 past
+-- the position at which this request was done: 0 before the log, else that of the committed call that carries it
+abbrev pub done_at : List DoneRequest → List CertifiedItem → Option RequestId → Option ℕ
+done_at done past request = if was_done done request then Some 0 else first_position (repeats request) 1 past
 
--- the verdict on the next item, a call, by what is known of those before it: it is repeated, where a committed one carries
--- its request, however long ago; else stale, where more than the window were ordered since its snapshot; else in conflict
--- with the least since then that conflicts with its looks; else it commits
-unfoldable pub verdict_after : ℕ → List CertifiedItem → Call → List Look → Verdict
-verdict_after window past call looks =
-    unless_repeated (first_repeated past call)
+abbrev pub first_repeated : List DoneRequest → List CertifiedItem → Call → Option ℕ
+first_repeated done past call = done_at done past call.request
+
+-- the verdict on the next item, a call, by what is known of those before it. It is repeated, where its request was done, however
+-- long ago. Else it is stale, where more than the window were ordered since its snapshot. Else it is in conflict with the least
+-- since then that conflicts with its looks. Else it commits
+unfoldable pub verdict_after : ℕ → List DoneRequest → List CertifiedItem → Call → List Look → Verdict
+verdict_after window done past call looks =
+    unless_repeated (first_repeated done past call)
     (if nat_le (length past - call.snapshot) window
     then unless_conflict (first_position (conflicts looks) (call.snapshot + 1) (drop call.snapshot past))
     else Stale)
 
 -- the next item, a call, by its looks and writes
-abbrev pub certified_call_after : ℕ → List CertifiedItem → Call → List Look → Writes → CertifiedItem
-certified_call_after window past call looks writes =
-    record { request = call.request; writes = writes; verdict = verdict_after window past call looks }
+abbrev pub certified_call_after : ℕ → List DoneRequest → List CertifiedItem → Call → List Look → Writes → CertifiedItem
+certified_call_after window done past call looks writes =
+    record { request = call.request; writes = writes; verdict = verdict_after window done past call looks }
 
 -- the verdict on an addition to these procedures
 abbrev pub verdict_on_addition : Catalogue → StoredProcedure → Verdict
@@ -168,15 +195,18 @@ pub record History : Type 0 where
   pub certified : List CertifiedItem  -- of each item
   pub databases : List Database  -- before the first item, and after each
 
-abbrev pub first_database : Catalogue → Database
-first_database procedures = record { rows = empty; procedures = procedures }
+abbrev pub first_database : Beginning → Database
+first_database beginning = record { rows = beginning.rows; procedures = beginning.procedures }
 
 abbrev pub start : Setting → History
-start w = record { certified = []; databases = first_database w.catalogue ∷ [] }
+start w = record { certified = []; databases = first_database w.beginning ∷ [] }
+
+abbrev pub no_database : Database
+no_database = record { rows = empty; procedures = [] }
 
 -- past the end there is nothing
 abbrev pub database_at : History → ℕ → Database
-database_at h position = slice_index_or h.databases position (first_database [])
+database_at h position = slice_index_or h.databases position no_database
 
 abbrev pub database_now : History → Database
 database_now h = database_at h (length h.certified)
@@ -196,7 +226,7 @@ run_at w h call rows = run_of_call w.tables (database_at h call.snapshot).proced
 unfoldable pub certified_item : Setting → History → Item → CertifiedItem
 certified_item w h (CallItem call) =
     let r = run_at w h call (database_at h call.snapshot).rows in
-    certified_call_after w.window h.certified call r.looks r.writes
+    certified_call_after w.window w.beginning.requests h.certified call r.looks r.writes
 certified_item w h (AdditionItem p) = certified_addition (database_now h).procedures p
 
 -- and the database after it, with this verdict: a call that commits runs once more, on the rows now; a procedure that is
@@ -225,11 +255,11 @@ verdict_in certified (suc k) = option_map (λ c. c.verdict) (slice_get certified
 abbrev pub verdict_of : Setting → Log → ℕ → Option Verdict
 verdict_of w log position = verdict_in (history w log).certified position
 
--- the rows after a position; at 0, and past the end, there are none
+-- the rows after a position: at 0 those of the beginning, past the end none
 abbrev pub rows_after : Setting → Log → ℕ → Rows
 rows_after w log position = (database_at (history w log) position).rows
 
--- the procedures after a position; at 0 those of the catalogue, and past the end none
+-- the procedures after a position: at 0 those of the beginning, past the end none
 abbrev pub procedures_after : Setting → Log → ℕ → Catalogue
 procedures_after w log position = (database_at (history w log) position).procedures
 

@@ -1,10 +1,10 @@
 -- What a verdict means, in words of the log alone.
-use Rattle.std.specs.Prelude.{◌≡◌, ℕ, suc, ◌<◌, ◌≤◌, List, slice_get, Some, IsTrue, IsSome}
+use Rattle.std.specs.Prelude.{◌≡◌, ◌⊎◌, ℕ, suc, ◌<◌, ◌≤◌, List, slice_get, Some, IsTrue, IsSome}
 use Rattle.std.specs.FinMap.{get}
 use Rattle.schema.specs.declared.look.Look.{Look}
 use Rattle.schema.specs.Rows.{Key, any_covers}
 use Rattle.log_model.specs.declared.verdict.Verdict.TheVariants.{Commit}
-use Rattle.log_model.specs.Log.{Setting, Call, CallItem, Log, same_request, verdict_of, run_in}
+use Rattle.log_model.specs.Log.{Setting, Call, CallItem, Log, same_request, was_done, verdict_of, run_in}
 
 -- the call at this position committed, and its run wrote a key in one of the looks
 pub record WroteWhatWasRead (w : Setting) (log : Log) (looks : List Look) (position : ℕ) : Type 0 where
@@ -38,6 +38,15 @@ pub record IsRepetition (w : Setting) (log : Log) (call : Call) (position later 
   pub committed : verdict_of w log position ≡ Some Commit
   pub same : IsTrue (same_request call.request first.request)
 
--- no call before this position did
-abbrev pub IsNew : Setting → Log → Call → ℕ → Type 0
-IsNew w log call later = (position : ℕ) → IsRepetition w log call position later → ⊥
+-- the request of a call was done before the log
+abbrev pub IsDoneBefore : Setting → Call → Type 0
+IsDoneBefore w call = IsTrue (was_done w.beginning.requests call.request)
+
+-- its request was done at this position: before the log, which is 0, or by a call that it repeats
+abbrev pub IsRepeated : Setting → Log → Call → ℕ → ℕ → Type 0
+IsRepeated w log call position later = (IsDoneBefore w call × (position ≡ 0)) ⊎ IsRepetition w log call position later
+
+-- its request wasn't done before the log, nor by a call before this position
+pub record IsNew (w : Setting) (log : Log) (call : Call) (later : ℕ) : Type 0 where
+  pub not_before : IsDoneBefore w call → ⊥
+  pub first : (position : ℕ) → IsRepetition w log call position later → ⊥

@@ -4,8 +4,7 @@ ghost use Rattle.std.specs.Prelude.{◌≡◌, ◌≢◌, ◌↔◌, ◌+◌, �
 ghost use Rattle.std.specs.Prelude.{Option, None, IsSome, ◌==◌, IsTrue, [], ◌∷◌};
 ghost use Rattle.std.specs.List.{list_any};
 ghost use Rattle.schema.specs.declared.look.Look.{Look};
-ghost use Rattle.std.specs.FinMap.{empty};
-ghost use Rattle.schema.specs.Rows.{AreRows, after_writes};
+ghost use Rattle.schema.specs.Rows.{Rows, AreRows, after_writes};
 ghost use Rattle.log_model.specs.InstalledWrites.{InstalledWrites, map_after};
 ghost use Rattle.log_model.specs.declared.verdict.Verdict.TheVariants.{Commit, Conflict, Stale, Repeated, Taken};
 ghost use Rattle.log_model.specs.declared.verdict.Identifier.TheVariants.{Name, Number};
@@ -14,15 +13,15 @@ ghost use Rattle.log_model.specs.Log.{StoredProcedure, CertifiedItem, Setting, C
 ghost use Rattle.log_model.specs.Log.{IsPlaced, IsLog, same_request, by_number, by_name, if_commits};
 ghost use Rattle.log_model.specs.Log.{history, rows_after, procedures_after, verdict_of, moment_at};
 ghost use Rattle.log_model.specs.declared.request.RequestId.{RequestId};
-ghost use Rattle.log_model.specs.Fit.{AreSafe, HasSafeProcedures, IsCall, AreItems};
-ghost use Rattle.log_model.specs.Verdicts.{IsConflict, IsLeastConflict, IsRepetition, IsNew};
+ghost use Rattle.log_model.specs.Fit.{AreSafe, BeginsSafely, IsCall, AreItems};
+ghost use Rattle.log_model.specs.Verdicts.{IsConflict, IsLeastConflict, IsDoneBefore, IsRepeated, IsNew};
 ghost use Rattle.log_model.specs.Entries.{Entry, ExecutedCall, item_of, items_of, CarriesRun, IsCarried, CarryRuns};
 ghost use Rattle.log_model.specs.Entries.{certified_entries_of, installed_from};
 
-/// The procedures after each position: the catalogue's at first; a call leaves them; an addition that commits
+/// The procedures after each position: those of the beginning at first; a call leaves them; an addition that commits
 /// comes behind them.
 pub fn procedures_after_each_item()
-    ensures first { (w : Setting) (log : Log) → procedures_after w log 0 ≡ w.catalogue }
+    ensures first { (w : Setting) (log : Log) → procedures_after w log 0 ≡ w.beginning.procedures }
     ensures call { (w : Setting) (log : Log) (d : ℕ) (call : Call)
         → IsLog log → slice_get log d ≡ Some (CallItem call)
         → procedures_after w log (suc d) ≡ procedures_after w log d }
@@ -32,14 +31,14 @@ pub fn procedures_after_each_item()
         ≡ if_commits v (procedures_after w log d ++ p ∷ []) (procedures_after w log d) }
 {}
 
-/// A verdict on a call, in words of the log, is repeated where an earlier committed call carries the same request,
-/// however long ago. Else it is stale where more items than the window came since the snapshot. Else it is a conflict
+/// A verdict on a call, in words of the log, is repeated where its request was done before the log, or by an earlier
+/// committed call, however long ago. Else it is stale where more items than the window came since the snapshot. Else it is a conflict
 /// with the least item since then that committed and wrote a key that the call looked at. Where there is no such item,
 /// the call commits.
 pub fn verdicts_in_words_of_the_log()
     ensures repeated { (w : Setting) (log : Log) (d : ℕ) (call : Call) (position : ℕ)
         → IsLog log → slice_get log d ≡ Some (CallItem call)
-        → (verdict_of w log (suc d) ≡ Some (Repeated position)) ↔ IsRepetition w log call position (suc d) }
+        → (verdict_of w log (suc d) ≡ Some (Repeated position)) ↔ IsRepeated w log call position (suc d) }
     ensures stale { (w : Setting) (log : Log) (d : ℕ) (call : Call)
         → IsLog log → slice_get log d ≡ Some (CallItem call)
         → (verdict_of w log (suc d) ≡ Some Stale) ↔ (IsNew w log call (suc d) × (w.window < d - call.snapshot)) }
@@ -59,9 +58,12 @@ pub fn requests_are_the_same_where_they_are_equal()
     ensures { (a b : Option RequestId) → IsTrue (same_request a b) ↔ ((a ≡ b) × IsSome a) }
 {}
 
-/// No two committed calls carry one request.
+/// No committed call carries a request that was done before the log, and no two carry one request.
 pub fn each_request_commits_once()
-    ensures { (w : Setting) (log : Log) (d e : ℕ) (a b : Call)
+    ensures not_before { (w : Setting) (log : Log) (d : ℕ) (call : Call)
+        → IsLog log → slice_get log d ≡ Some (CallItem call) → verdict_of w log (suc d) ≡ Some Commit
+        → IsDoneBefore w call → ⊥ }
+    ensures once { (w : Setting) (log : Log) (d e : ℕ) (a b : Call)
         → IsLog log → slice_get log d ≡ Some (CallItem a) → slice_get log e ≡ Some (CallItem b)
         → verdict_of w log (suc d) ≡ Some Commit → verdict_of w log (suc e) ≡ Some Commit
         → IsTrue (same_request a.request b.request) → d ≡ e }
@@ -91,11 +93,12 @@ pub fn each_call_has_a_verdict()
     ensures beyond { (w : Setting) (log : Log) (d : ℕ) → length log ≤ d → verdict_of w log (suc d) ≡ None }
 {}
 
-/// The rows after each position are the write sets of the calls that commit, laid on in order.
+/// The rows after each position are those of the beginning, with the write sets of the calls that commit laid on in
+/// order.
 pub fn rows_are_installed_writes()
     ensures { (w : Setting) (log : Log) (position : ℕ)
-        → HasSafeProcedures w → IsLog log → AreItems w log → position ≤ length log
-        → map_after (installed_from 1 (history w log).certified) position ≡ rows_after w log position }
+        → BeginsSafely w → IsLog log → AreItems w log → position ≤ length log
+        → map_after w.beginning.rows (installed_from 1 (history w log).certified) position ≡ rows_after w log position }
 {}
 
 /// A log that grows keeps the rows and procedures after each of its positions, its verdicts, and the runs on its rows.
@@ -113,32 +116,32 @@ pub fn a_log_only_grows()
 /// The rows after each position are the schema's.
 pub fn rows_fit_the_schema()
     ensures { (w : Setting) (log : Log) (position : ℕ)
-        → HasSafeProcedures w → IsLog log → AreItems w log → position ≤ length log
+        → BeginsSafely w → IsLog log → AreItems w log → position ≤ length log
         → AreRows w.tables (rows_after w log position) }
 {}
 
 /// The procedures after each position are safe.
 pub fn procedures_stay_safe()
     ensures { (w : Setting) (log : Log) (position : ℕ)
-        → HasSafeProcedures w → IsLog log → AreItems w log → position ≤ length log
+        → BeginsSafely w → IsLog log → AreItems w log → position ≤ length log
         → AreSafe w.tables (procedures_after w log position) }
 {}
 
 /// Entries suffice, where each entry that is a call carries its run's looks and writes. The verdicts and procedures by
-/// the entries alone are the log's. The rows after each position are the write sets of the calls that commit, laid on
-/// in order.
+/// the entries alone are the log's. The rows after each position are those of the beginning, with the write sets of the
+/// calls that commit laid on in order.
 pub fn entries_suffice()
     ensures verdicts { (w : Setting) (entries : List Entry)
         → IsLog (items_of entries) → CarryRuns w entries
-        → (certified_entries_of w.window w.catalogue entries).certified ≡ (history w (items_of entries)).certified }
+        → (certified_entries_of w.window w.beginning entries).certified ≡ (history w (items_of entries)).certified }
     ensures procedures { (w : Setting) (entries : List Entry)
         → IsLog (items_of entries) → CarryRuns w entries
-        → (certified_entries_of w.window w.catalogue entries).procedures
+        → (certified_entries_of w.window w.beginning entries).procedures
         ≡ procedures_after w (items_of entries) (length entries) }
     ensures rows { (w : Setting) (entries : List Entry) (position : ℕ)
-        → HasSafeProcedures w → IsLog (items_of entries) → AreItems w (items_of entries) → CarryRuns w entries
+        → BeginsSafely w → IsLog (items_of entries) → AreItems w (items_of entries) → CarryRuns w entries
         → position ≤ length entries
-        → map_after (installed_from 1 (certified_entries_of w.window w.catalogue entries).certified) position
+        → map_after w.beginning.rows (installed_from 1 (certified_entries_of w.window w.beginning entries).certified) position
         ≡ rows_after w (items_of entries) position }
 {}
 
@@ -169,12 +172,12 @@ pub fn one_more_entry_carries_its_run()
 /// The map at each position has the write sets that were installed up to that position. One more write set changes the
 /// map from its own position on, and not below.
 pub fn map_after_each_write_set()
-    ensures none { (position : ℕ) → map_after [] position ≡ empty }
-    ensures later { (installed : List InstalledWrites) (next : InstalledWrites) (position : ℕ)
+    ensures none { (rows : Rows) (position : ℕ) → map_after rows [] position ≡ rows }
+    ensures later { (rows : Rows) (installed : List InstalledWrites) (next : InstalledWrites) (position : ℕ)
         → next.position ≤ position
-        → map_after (installed ++ next ∷ []) position
-        ≡ after_writes next.writes (map_after installed position) }
-    ensures before { (installed : List InstalledWrites) (next : InstalledWrites) (position : ℕ)
+        → map_after rows (installed ++ next ∷ []) position
+        ≡ after_writes next.writes (map_after rows installed position) }
+    ensures before { (rows : Rows) (installed : List InstalledWrites) (next : InstalledWrites) (position : ℕ)
         → position < next.position
-        → map_after (installed ++ next ∷ []) position ≡ map_after installed position }
+        → map_after rows (installed ++ next ∷ []) position ≡ map_after rows installed position }
 {}

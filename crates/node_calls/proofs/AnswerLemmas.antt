@@ -1,13 +1,13 @@
 -- What a call is answered by its verdict.
-use Rattle.std.proofs.Common.{◌≡◌, ℕ, zero, suc, ◌+◌, ◌-◌, ◌≤◌, Bool, true, false, cond, nat_le, drop, List, [], ◌∷◌, ◌++◌, length, length-append, slice_get, Option, Some, None, refl, sym, ap, subst, ◌∙◌, arith}
+use Rattle.std.proofs.Common.{◌≡◌, ◌⊎◌, inl, inr, ℕ, zero, suc, ◌+◌, ◌-◌, ◌≤◌, Bool, true, false, cond, nat_le, drop, List, [], ◌∷◌, ◌++◌, length, length-append, slice_get, Option, Some, None, refl, sym, ap, subst, ◌∙◌, arith}
 use Rattle.log_model.specs.declared.verdict.Identifier.{Identifier}
 use Rattle.log_model.specs.declared.verdict.Verdict.{Verdict}
 use Rattle.log_model.specs.declared.verdict.Verdict.TheVariants.{Stale, Repeated, Taken}
 use Rattle.schema.specs.declared.look.Look.{Look}
-use Rattle.log_model.specs.Log.{CertifiedItem, first_position, first_repeated, conflicts, verdict_after, Setting, Call, Item, CallItem, Log, IsLog, verdict_of, unless_repeated, unless_conflict}
+use Rattle.log_model.specs.Log.{DoneRequest, was_done, CertifiedItem, first_position, first_repeated, conflicts, verdict_after, Setting, Call, Item, CallItem, Log, IsLog, verdict_of, unless_repeated, unless_conflict}
 use Rattle.log_model.specs.Entries.{ExecutedCall, item_of, items_of}
 use Rattle.log_model.specs.OpenRequest.{has_zero}
-use Rattle.log_model.specs.Verdicts.{IsRepetition}
+use Rattle.log_model.specs.Verdicts.{IsRepeated}
 use Rattle.log_model.specs.Entries.{Entry, CallEntry, certified_entry, certified_entries_of}
 use Rattle.log_entry.specs.declared.entry.Entry.{Entry as LogEntry}
 use Rattle.log_entry.specs.declared.entry.Entry.TheVariants as entry
@@ -63,40 +63,45 @@ taken_of None true None i e = cc
 taken_of None true (Some n) i e = cc
 taken_of None false o i e = cc
 
-taken_after : (window : ℕ) (past : List CertifiedItem) (call : Call) (looks : List Look) (i : Identifier) → just (verdict_after window past call looks) ≡ just (Taken i) → ⊥
+taken_after : (window : ℕ) (done : List DoneRequest) (past : List CertifiedItem) (call : Call) (looks : List Look) (i : Identifier) → just (verdict_after window done past call looks) ≡ just (Taken i) → ⊥
 unfolding verdict_after
-taken_after window past call looks i e =
-    taken_of (first_repeated past call) (nat_le (length past - call.snapshot) window) (first_position (conflicts looks) (call.snapshot + 1) (drop call.snapshot past)) i e
+taken_after window done past call looks i e =
+    taken_of (first_repeated done past call) (nat_le (length past - call.snapshot) window) (first_position (conflicts looks) (call.snapshot + 1) (drop call.snapshot past)) i e
 
 -- what the law of replicas says of the next entry
 abbrev pub NextVerdict : Type 0
 NextVerdict = (w : Setting) (entries : List Entry) (e : Entry) → AreEntriesOf w (entries ++ e ∷ [])
-    → verdict_of w (items_of (entries ++ e ∷ [])) (length entries + 1) ≡ Some (certified_entry w.window (certified_entries_of w.window w.catalogue entries) e).verdict
+    → verdict_of w (items_of (entries ++ e ∷ [])) (length entries + 1) ≡ Some (certified_entry w.window (certified_entries_of w.window w.beginning entries) e).verdict
 
 module _ {A : Type 0} (w : Setting) (e : ExecutedCall) (position : ℕ) (seen : List (LogEntry A)) where
   pub never_taken : (law : NextVerdict) (i : Identifier) → IsAppended w e position seen → IsVerdict w (length seen) seen (Taken i) → ⊥
   never_taken law i a known =
       let same : entries_of seen ≡ entries_of a.before ++ CallEntry e ∷ [] = ap (λ (xs : List (LogEntry A)). entries_of xs) a.list ∙ entries_append a.before (entry.Call e ∷ []) in
       let long : length (entries_of a.before) + 1 ≡ length seen = let n = entries_count a.before in let all = count w e position seen a in omega arith in
-      taken_after w.window (certified_entries_of w.window w.catalogue (entries_of a.before)).certified e.call e.looks i
+      taken_after w.window (certified_entries_of w.window w.beginning (entries_of a.before)).done (certified_entries_of w.window w.beginning (entries_of a.before)).certified e.call e.looks i
       (sym (law w (entries_of a.before) (CallEntry e) (subst (AreEntriesOf w) same known.entries))
       ∙ ap (λ (xs : List Entry). verdict_of w (items_of xs) (length (entries_of a.before) + 1)) (sym same)
       ∙ ap (verdict_of w (log_seen seen)) long ∙ known.verdict)
 
   -- what the law of verdicts says
   abbrev pub RepeatsACall : Type 0
-  RepeatsACall = (log : Log) (d : ℕ) (call : Call) (earlier : ℕ) → IsLog log → slice_get log d ≡ Some (CallItem call) → verdict_of w log (suc d) ≡ Some (Repeated earlier) → IsRepetition w log call earlier (suc d)
+  RepeatsACall = (log : Log) (d : ℕ) (call : Call) (earlier : ℕ) → IsLog log → slice_get log d ≡ Some (CallItem call) → verdict_of w log (suc d) ≡ Some (Repeated earlier) → IsRepeated w log call earlier (suc d)
 
-  pub repeated : (law : RepeatsACall) (earlier : ℕ) → IsAppended w e position seen → IsVerdict w (length seen) seen (Repeated earlier)
+  pub repeated : (law : RepeatsACall) (earlier : ℕ) → w.beginning.requests ≡ [] → IsAppended w e position seen → IsVerdict w (length seen) seen (Repeated earlier)
       → (1 ≤ earlier) × (earlier ≤ length seen) × ((call : Call) × (slice_get (log_seen seen) (earlier - 1) ≡ Some (CallItem call)))
-  repeated law earlier a known =
-      let r = law (log_seen seen) (length a.before) e.call earlier known.entries.log (last_item w e position seen a) (verdict_last w e position seen (Repeated earlier) a known) in
-      let all = count w e position seen a in
-      let place : earlier - 1 ≡ r.before = let p = r.place in omega arith in (
-        (let p = r.place in omega arith),
-        (let p = r.earlier in omega arith),
-        (r.first, ap (slice_get (log_seen seen)) place ∙ r.stands),
-      )
+  repeated law earlier none_before a known =
+      by (law (log_seen seen) (length a.before) e.call earlier known.entries.log (last_item w e position seen a) (verdict_last w e position seen (Repeated earlier) a known))
+    where
+      by : IsRepeated w (log_seen seen) e.call earlier (suc (length a.before))
+          → (1 ≤ earlier) × (earlier ≤ length seen) × ((call : Call) × (slice_get (log_seen seen) (earlier - 1) ≡ Some (CallItem call)))
+      by (inl done) = absurd (let bad : false ≡ true = ap (λ ds. was_done ds e.call.request) (sym none_before) ∙ done.0 in cc)
+      by (inr r) =
+          let all = count w e position seen a in
+          let place : earlier - 1 ≡ r.before = let p = r.place in omega arith in (
+            (let p = r.place in omega arith),
+            (let p = r.earlier in omega arith),
+            (r.first, ap (slice_get (log_seen seen)) place ∙ r.stands),
+          )
 
 -- ---- an addition is no call
 

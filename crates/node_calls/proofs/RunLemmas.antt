@@ -17,7 +17,7 @@ use Rattle.bpf_verify.specs.Flow.{Procedure}
 use Rattle.bpf_vm.specs.declared.turn.Turn.{Turn}
 use Rattle.bpf_vm.specs.declared.turn.Turn.TheVariants.{More, Exit, Stale, NoMemory}
 use Rattle.log_model.specs.Log.{Setting, Call, Log, IsLog, StoredProcedure, by_number, procedures_after, procedure_of, rows_after, moment_at}
-use Rattle.log_model.specs.Fit.{HasSafeProcedures, AreItems}
+use Rattle.log_model.specs.Fit.{BeginsSafely, AreItems}
 use Rattle.log_entry.specs.declared.entry.Entry.{Entry as LogEntry}
 use Rattle.log_model.specs.OpenCall.{OpenCall, is_row_helper, calls_row_helper, at_row_helper}
 use Rattle.catalogue.specs.Catalogue.{accepted_of}
@@ -48,7 +48,7 @@ has_program w accepted (Some p) e = (p, refl, some_is accepted (accepted_of w.ta
 
 -- what the law of rows says
 abbrev pub RowsFit : Type 0
-RowsFit = (w : Setting) (log : Log) (position : ℕ) → HasSafeProcedures w → IsLog log → AreItems w log → position ≤ length log → AreRows w.tables (rows_after w log position)
+RowsFit = (w : Setting) (log : Log) (position : ℕ) → BeginsSafely w → IsLog log → AreItems w log → position ≤ length log → AreRows w.tables (rows_after w log position)
 
 pub same_call : (w : Setting) (log : Log) (gone : Bool) (o : OpenCall) (turn : Turn) (after : OpenCall) → IsTurn w log gone o turn after → stays_open turn ≡ true → after.call ≡ o.call
 same_call w log gone o More after t stays = ap (λ (x : OpenCall). x.call) t.2
@@ -97,7 +97,7 @@ module _ {A : Type 0} where
       let found : by_number (procedures_after w log snapshot) procedure ≡ just p.0 =
       ap (λ (n : ℕ). by_number (procedures_after w log n) procedure) at ∙ ap (by_number (procedures_after w log (length b.entries))) own ∙ p.1 in
       record {
-        follows = follows w log p.0 found (is ∙ p.2) (fit w log snapshot are.procedures are.log are.items (omega arith));
+        follows = follows w log p.0 found (is ∙ p.2) (fit w log snapshot are.begins are.log are.items (omega arith));
         procedure = procedure_is ∙ own;
         snapshot = snapshot_is ∙ at;
       }

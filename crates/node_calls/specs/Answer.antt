@@ -1,9 +1,10 @@
 -- What a call is answered, and what was seen of the log then.
-use Rattle.std.specs.Prelude.{◌≡◌, ◌⊎◌, ℕ, ◌-◌, ◌≤◌, false, List, [], ◌∷◌, ◌++◌, length, take, slice_get, Option, Some, None, Err}
+use Rattle.std.specs.Prelude.{◌≡◌, ◌⊎◌, ℕ, suc, ◌≤◌, false, List, [], ◌∷◌, ◌++◌, length, take, slice_get, Option, Some, None, Err}
 use Rattle.std.specs.FinMap.{len}
+use Rattle.log_model.specs.declared.request.RequestId.{RequestId}
 use Rattle.log_model.specs.declared.verdict.Verdict.{Verdict}
 use Rattle.log_model.specs.declared.verdict.Verdict.TheVariants as verdict
-use Rattle.log_model.specs.Log.{Setting, Call, verdict_of, run_in}
+use Rattle.log_model.specs.Log.{Setting, Call, reply_done, verdict_of, run_in}
 use Rattle.log_model.specs.Fit.{IsCall}
 use Rattle.log_model.specs.Entries.{ExecutedCall}
 use Rattle.log_entry.specs.declared.entry.Entry.{Entry as LogEntry}
@@ -49,9 +50,16 @@ pub record IsVerdict {A : Type 0} (w : Setting) (position : ℕ) (seen : List (L
 
 -- a call stands at this position of what was seen, with this reply
 pub record IsReplyAt {A : Type 0} (seen : List (LogEntry A)) (position reply : ℕ) : Type 0 where
+  pub before : ℕ
+  pub place : position ≡ suc before
   pub e : ExecutedCall
-  pub stands : slice_get seen (position - 1) ≡ Some (entry.Call e)
+  pub stands : slice_get seen before ≡ Some (entry.Call e)
   pub replied : reply ≡ e.reply
+
+-- a request was done at this position, with this reply: before the log, which is 0, or by the call there
+abbrev pub IsReplyTo : {A : Type 0} → Setting → List (LogEntry A) → Option RequestId → ℕ → ℕ → Type 0
+IsReplyTo w seen request position reply =
+    ((position ≡ 0) × (reply_done w.beginning.requests request ≡ Some reply)) ⊎ IsReplyAt seen position reply
 
 -- what was seen are entries of a log, no fewer than is asked for
 pub record IsBegunAfter {A : Type 0} (w : Setting) (a : AskedCall) (seen : List (LogEntry A)) : Type 0 where
@@ -76,7 +84,7 @@ pub record IsLate {A : Type 0} (w : Setting) (a : AskedCall) (seen : List (LogEn
 abbrev pub IsAnswer : {A : Type 0} → Setting → AskedCall → Answer → Option (List (LogEntry A)) → Type 0
 IsAnswer w a (Committed position reply) (Some seen) = (o : IsOrderedAt w a position seen) × IsVerdict w position seen verdict.Commit × (reply ≡ o.entry.reply)
 IsAnswer w a (Conflict position other) (Some seen) = IsOrderedAt w a position seen × IsVerdict w position seen (verdict.Conflict other)
-IsAnswer w a (Repeated position earlier reply) (Some seen) = IsOrderedAt w a position seen × IsVerdict w position seen (verdict.Repeated earlier) × IsReplyAt seen earlier reply
+IsAnswer w a (Repeated position earlier reply) (Some seen) = IsOrderedAt w a position seen × IsVerdict w position seen (verdict.Repeated earlier) × IsReplyTo w seen a.request earlier reply
 IsAnswer w a Stale (Some seen) = ((position : ℕ) × IsOrderedAt w a position seen × IsVerdict w position seen verdict.Stale) ⊎ IsLate w a seen
 IsAnswer w a (Stopped position) (Some seen) = IsOrderedAt w a position seen
 IsAnswer w a (Read snapshot reply) (Some seen) =
@@ -90,8 +98,9 @@ IsAnswer w a NoMemory None = Unit {0}
 IsAnswer w a Full None = Unit {0}
 IsAnswer w a answer seen = ⊥
 
--- what became of the last entry that was seen, where that is known for good
+-- what became of the last entry that was seen, where that is known for good. Where the verdict is, no request was done before
+-- the log
 abbrev pub IsFinal : {A : Type 0} → Setting → List (LogEntry A) → Found → Type 0
-IsFinal w seen (found.Verdict v) = IsVerdict w (length seen) seen v
+IsFinal w seen (found.Verdict v) = IsVerdict w (length seen) seen v × (w.beginning.requests ≡ [])
 IsFinal w seen found.Stopped = Unit {0}
 IsFinal w seen found.NotYet = ⊥

@@ -28,7 +28,7 @@ pub enum Answer {
     /// The call looked at rows that are kept no longer, or its verdict is stale: too much was ordered since its
     /// snapshot.
     Stale,
-    /// A call that committed earlier carries the same request, and this is its reply.
+    /// The request was done earlier, and this is its reply.
     Repeated {
         position: u32,
         earlier: u32,

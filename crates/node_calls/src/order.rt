@@ -1,6 +1,6 @@
 //! A call is ordered, and its verdict awaited.
 
-ghost use Rattle.std.specs.Prelude.{◌≡◌, ◌≢◌, ◌-◌, ◌≤◌, false, length, slice_get, IfOk, Some, Err};
+ghost use Rattle.std.specs.Prelude.{◌≡◌, ◌≢◌, ◌-◌, ◌≤◌, [], false, length, slice_get, IfOk, Some, Err};
 ghost use Rattle.log_model.specs.OpenRequest.{has_zero};
 ghost use Rattle.log_model.specs.Log.{Call, CallItem};
 ghost use Rattle.log_model.specs.Entries.{ExecutedCall as Executed};
@@ -111,6 +111,7 @@ fn answer_of<J: LogSetting, P: Allocator + Copy>(
 ) -> Answer
     requires appended { (e : Executed) × IsAppended J.setting e position seen.now }
     requires known { IsVerdict J.setting (length seen.now) seen.now verdict }
+    requires none_before { J.setting.beginning.requests ≡ [] }
     ensures { (a : AskedCall) (e : Executed) → IsAppended J.setting e position seen.now
         → e.call ≡ asked_call a e.call.snapshot → a.least ≤ e.call.snapshot → reply ≡ e.reply
         → has_zero a.request ≡ false → IsAnswer J.setting a result (Some seen.now) }

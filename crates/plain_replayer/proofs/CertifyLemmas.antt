@@ -87,7 +87,7 @@ recent_comparisons window past call looks snapshot at is =
     ∙ ap (λ b. cond b (comparisons_from looks (snapshot + 1) (drop snapshot past)) []) is)
 
 -- by the position of the call that is repeated
-pub comparisons_by_first : (window : ℕ) (past : List CertifiedItem) (call : Call) (looks : List Look) (first : Option ℕ) → first ≡ first_repeated past call
-    → cond (is_some first) [] (comparisons_on_new window past call looks) ≡ comparisons_after window past call looks
+pub comparisons_by_first : (window : ℕ) (past : List CertifiedItem) (call : Call) (looks : List Look) (first : Option ℕ) → first ≡ first_repeated [] past call
+    → cond (is_some first) [] (comparisons_on_new window past call looks) ≡ comparisons_after window [] past call looks
 unfolding comparisons_after
 comparisons_by_first window past call looks first found = ap (λ (o : Option ℕ). cond (is_some o) [] (comparisons_on_new window past call looks)) found

@@ -1,5 +1,5 @@
 -- The log, one item after another.
-use Rattle.std.proofs.Common.{◌≡◌, ◌⊎◌, inl, inr, ◌↔◌, ℕ, zero, suc, ◌+◌, ◌-◌, ◌≤◌, ◌<◌, List, [], ◌∷◌, ◌++◌, length, map, take, get_or, Some, None, option_map, refl, sym, ap, subst, ◌∙◌, arith, Option}
+use Rattle.std.proofs.Common.{◌≡◌, ◌⊎◌, inl, inr, ◌↔◌, ℕ, zero, suc, ◌+◌, ◌-◌, ◌≤◌, ◌<◌, List, [], ◌∷◌, ◌++◌, length, map, take, get_or, Some, None, option_map, refl, sym, ap, subst, ◌∙◌, arith, Option, false, true}
 use Rattle.std.specs.Prelude.{slice_get, Option, true, false}
 use Rattle.std.specs.FinMap.{empty}
 use Rattle.std.specs.List.{cons_option, take-map}
@@ -14,8 +14,8 @@ use Rattle.bpf_semantics.specs.Run.{Run}
 use Rattle.log_model.specs.declared.request.RequestId.{RequestId}
 use Rattle.log_model.specs.declared.verdict.Verdict.{Verdict}
 use Rattle.log_model.specs.declared.verdict.Verdict.TheVariants.{Commit, Conflict, Stale, Repeated, Taken}
-use Rattle.log_model.specs.Log.{Setting, is_commit, Call, Item, CallItem, AdditionItem, Log, IsPlaced, IsLogFrom, IsLog, by_number, or_idle, run_of_procedure, run_of_call, CertifiedItem, verdict_after, verdict_on_addition, certified_call_after, certified_addition, certified_item, Database, first_database, database_at, database_now, database_after_item, History, start, with_item, if_commits, history, procedures_after, run_in, verdict_of}
-use Rattle.log_model.specs.Verdicts.{IsRepetition}
+use Rattle.log_model.specs.Log.{Setting, is_commit, Call, Item, CallItem, AdditionItem, Log, IsPlaced, IsLogFrom, IsLog, by_number, or_idle, run_of_procedure, run_of_call, CertifiedItem, verdict_after, verdict_on_addition, certified_call_after, certified_addition, certified_item, Database, no_database, database_at, database_now, database_after_item, History, start, with_item, if_commits, history, procedures_after, run_in, verdict_of, was_done}
+use Rattle.log_model.specs.Verdicts.{IsRepeated, IsRepetition}
 use Rattle.certify.specs.Comparisons.{comparisons_after}
 use Rattle.plain_replayer.specs.declared.item.PlainItemKind.{PlainItemKind}
 use Rattle.plain_replayer.specs.Kind.{item_of}
@@ -44,15 +44,15 @@ pub said_of_run : (w : Setting) (log : Log) (past : List Report) (call : Call) (
     → request ≡ call.request
     → run ≡ run_of_procedure w.tables (by_number (procedures_at w log past call.snapshot) call.procedure) call.args rows
     → looks ≡ (or_idle empty run).looks → reply ≡ (or_idle empty run).reply
-    → verdict ≡ verdict_after w.window (map certified_of past) call looks → comparisons ≡ comparisons_after w.window (map certified_of past) call looks
+    → verdict ≡ verdict_after w.window w.beginning.requests (map certified_of past) call looks → comparisons ≡ comparisons_after w.window w.beginning.requests (map certified_of past) call looks
     → told ≡ told_by past verdict reply
     → report_by_run request run verdict comparisons told ≡ report_of_run w past call (run_by w log past call rows)
 unfolding run_of_call
 said_of_run w log past call rows run request looks reply verdict comparisons told q is looks_are reply_is e f t =
     let same : looks ≡ (or_idle rows run).looks = looks_are ∙ same_looks rows run in
-    let certain : verdict ≡ (report_of_run w past call (or_idle rows run)).verdict = e ∙ ap (verdict_after w.window (map certified_of past) call) same in
+    let certain : verdict ≡ (report_of_run w past call (or_idle rows run)).verdict = e ∙ ap (verdict_after w.window w.beginning.requests (map certified_of past) call) same in
     reported_run w past call rows run request verdict comparisons told q certain
-    (f ∙ ap (comparisons_after w.window (map certified_of past) call) same)
+    (f ∙ ap (comparisons_after w.window w.beginning.requests (map certified_of past) call) same)
     (t ∙ (λ i. told_by past (certain i) ((reply_is ∙ same_reply rows run) i)))
     ∙ ap (λ (r : Option Run). report_of_run w past call (or_idle rows r)) is
 
@@ -137,7 +137,7 @@ pub record IsHistory (w : Setting) (log : Log) (reports : List Report) (rows : L
   count : length h.databases ≡ suc (length reports)
 
 rows_there : (w : Setting) (log : Log) (reports : List Report) (rows : List Rows) (h : History) → IsHistory w log reports rows h → (p : ℕ) → get_or rows p empty ≡ (database_at h p).rows
-rows_there w log reports rows h so p = ap (λ (rs : List Rows). get_or rs p empty) so.rows_are ∙ get_or-map (λ (d : Database). d.rows) h.databases p (first_database [])
+rows_there w log reports rows h so p = ap (λ (rs : List Rows). get_or rs p empty) so.rows_are ∙ get_or-map (λ (d : Database). d.rows) h.databases p no_database
 
 place_now : (w : Setting) (log : Log) (reports : List Report) (rows : List Rows) (h : History) → IsHistory w log reports rows h → length reports ≡ length h.certified
 place_now w log reports rows h so = sym (length_map certified_of reports) ∙ ap length so.certified
@@ -159,7 +159,7 @@ unfolding certified_item
 certified_next w log reports rows h (CallItem call) so =
     let same : run_by w log reports call (get_or rows call.snapshot empty) ≡ run_of_call w.tables (database_at h call.snapshot).procedures call (database_at h call.snapshot).rows =
     (λ i. run_of_call w.tables (so.procedures_are call.snapshot i) call (rows_there w log reports rows h so call.snapshot i)) in
-    (λ i. certified_call_after w.window (so.certified i) call (same i).looks (same i).writes)
+    (λ i. certified_call_after w.window w.beginning.requests (so.certified i) call (same i).looks (same i).writes)
 certified_next w log reports rows h (AdditionItem p) so = λ i. certified_addition (procedures_now w log reports rows h so i) p
 
 rows_next : (w : Setting) (log : Log) (reports : List Report) (rows : List Rows) (h : History) (item : Item) (v : Verdict) → IsHistory w log reports rows h
@@ -200,20 +200,20 @@ pub record IsSoFar (w : Setting) (log past : Log) (reports : List Report) (rows 
 
 at_first : (w : Setting) (log : Log) (p : ℕ) → procedures_at w log [] p ≡ (database_at (start w) p).procedures
 unfolding added_from
-at_first w log zero = append-nil w.catalogue
+at_first w log zero = append-nil w.beginning.procedures
 at_first w log (suc p) = at_beyond w log [] (suc p) (omega arith)
 
-nothing : (w : Setting) (log : Log) → IsSoFar w log [] [] (empty ∷ [])
+nothing : (w : Setting) (log : Log) → w.beginning.rows ≡ empty → IsSoFar w log [] [] (empty ∷ [])
 unfolding history added_from
-nothing w log = record {
-  is = record { certified = refl; rows_are = refl; procedures_are = at_first w log; count = refl };
+nothing w log none = record {
+  is = record { certified = refl; rows_are = ap (λ (rows : Rows). rows ∷ []) (sym none); procedures_are = at_first w log; count = refl };
   count = refl;
   count_rows = refl;
   said = λ is before item report at. absurd cc;
 }
 
-pub none_so_far : (w : Setting) (log : Log) (reports : List Report) (rows : List Rows) → reports ≡ [] → rows ≡ empty ∷ [] → IsSoFar w log [] reports rows
-none_so_far w log reports rows e f = subst (λ (rs : List Report). IsSoFar w log [] rs rows) (sym e) (subst (λ (m : List Rows). IsSoFar w log [] [] m) (sym f) (nothing w log))
+pub none_so_far : (w : Setting) (log : Log) (reports : List Report) (rows : List Rows) → w.beginning.rows ≡ empty → reports ≡ [] → rows ≡ empty ∷ [] → IsSoFar w log [] reports rows
+none_so_far w log reports rows none e f = subst (λ (rs : List Report). IsSoFar w log [] rs rows) (sym e) (subst (λ (m : List Rows). IsSoFar w log [] [] m) (sym f) (nothing w log none))
 
 one_said : (w : Setting) (log : Log) (reports : List Report) (rows : List Rows) (next : Report) (after : Rows) (before : ℕ) (item : Item) (report : Report)
     → before ≤ length reports → before < length rows → IsPlaced before item → report ≡ report_after w log (take before reports) rows item
@@ -325,8 +325,18 @@ call_said w log reports rows so before call report is at stands =
     ∙ ap (report_of_run w (take before reports) call) (run_said w log reports rows so before call (omega arith) (omega arith))
 
 -- that a repeated call stands where the verdict says
-abbrev IsRepeating : Type 0
-IsRepeating = (w : Setting) (log : Log) (d : ℕ) (call : Call) (position : ℕ) → IsLog log → slice_get log d ≡ Some (CallItem call) → (verdict_of w log (suc d) ≡ Some (Repeated position)) ↔ IsRepetition w log call position (suc d)
+abbrev IsRepeating : Setting → Type 0
+IsRepeating w = (log : Log) (d : ℕ) (call : Call) (position : ℕ) → IsLog log → slice_get log d ≡ Some (CallItem call) → verdict_of w log (suc d) ≡ Some (Repeated position) → IsRepetition w log call position (suc d)
+
+-- where no request was done before the log
+pub repeating : (w : Setting) → w.beginning.requests ≡ []
+    → ((w : Setting) (log : Log) (d : ℕ) (call : Call) (position : ℕ) → IsLog log → slice_get log d ≡ Some (CallItem call) → (verdict_of w log (suc d) ≡ Some (Repeated position)) ↔ IsRepeated w log call position (suc d))
+    → IsRepeating w
+repeating w none law log d call position is at v = by ((law w log d call position is at).0 v)
+  where
+    by : IsRepeated w log call position (suc d) → IsRepetition w log call position (suc d)
+    by (inl done) = absurd (let bad : false ≡ true = ap (λ ds. was_done ds call.request) (sym none) ∙ done.0 in cc)
+    by (inr repetition) = repetition
 
 get_report : (reports : List Report) (k : ℕ) → k < length reports → (report : Report) × (slice_get reports k ≡ Some report)
 get_report [] k lt = absurd (omega arith)
@@ -335,7 +345,7 @@ get_report (r ∷ rs) (suc k) lt = get_report rs k (omega arith)
 
 earlier_reply : (w : Setting) (log : Log) (reports : List Report) (rows : List Rows) → IsSoFar w log log reports rows → IsLog log
     → (before : ℕ) (call : Call) (position : ℕ) → before ≤ length reports → IsRepetition w log call position (suc before)
-    → option_map (λ (r : Report). r.reply) (slice_get (take before reports) (position - 1)) ≡ reply_of_item w log (slice_get log (position - 1))
+    → option_map (λ (r : Report). r.reply) (slice_get (take before reports) (position - 1)) ≡ told_reply w log call (Repeated position)
 earlier_reply w log reports rows so is before call position within r =
     let earlier = r.earlier in
     let place = r.place in
@@ -346,20 +356,19 @@ earlier_reply w log reports rows so is before call position within r =
     ∙ ap (option_map (λ (r : Report). r.reply)) (get_taken reports before r.before (omega arith) ∙ found.1)
     ∙ ap (λ (r : Report). Some r.reply) (call_said w log reports rows so r.before r.first found.0 is r.stands found.1)
     ∙ ap (reply_of_item w log) (sym r.stands)
-    ∙ ap (λ (k : ℕ). reply_of_item w log (slice_get log k)) (sym same)
+    ∙ ap (λ (n : ℕ). told_reply w log call (Repeated n)) (sym r.place)
 
-told_is : (w : Setting) (log : Log) (reports : List Report) (rows : List Rows) → IsSoFar w log log reports rows → IsLog log → IsRepeating
+told_is : (w : Setting) (log : Log) (reports : List Report) (rows : List Rows) → IsSoFar w log log reports rows → IsLog log → IsRepeating w
     → (before : ℕ) (call : Call) → before ≤ length reports → slice_get log before ≡ Some (CallItem call)
     → (v : Verdict) → verdict_of w log (suc before) ≡ Some v → told_by (take before reports) v (run_in w log call).reply ≡ told_reply w log call v
 told_is w log reports rows so is law before call within at Commit e = refl
 told_is w log reports rows so is law before call within at (Conflict position) e = refl
 told_is w log reports rows so is law before call within at Stale e = refl
 told_is w log reports rows so is law before call within at (Repeated position) e =
-    let means = law w log before call position is at in
-    earlier_reply w log reports rows so is before call position within (means.0 e)
+    earlier_reply w log reports rows so is before call position within (law log before call position is at e)
 told_is w log reports rows so is law before call within at (Taken identifier) e = refl
 
-report_of_call : (w : Setting) (log : Log) (reports : List Report) (rows : List Rows) → IsSoFar w log log reports rows → IsRepeating
+report_of_call : (w : Setting) (log : Log) (reports : List Report) (rows : List Rows) → IsSoFar w log log reports rows → IsRepeating w
     → (before : ℕ) (call : Call) (report : Report) → IsLog log → slice_get log before ≡ Some (CallItem call) → slice_get reports before ≡ Some report → IsReportOfCall w log before call report
 report_of_call w log reports rows so law before call report is at stands =
     let so_is = so.is in
@@ -375,7 +384,7 @@ report_of_call w log reports rows so law before call report is at stands =
       verdict = verdict;
       comparisons =
           ap (λ (r : Report). r.comparisons) whole
-          ∙ ap (λ (cs : List CertifiedItem). comparisons_after w.window cs call (run_in w log call).looks)
+          ∙ ap (λ (cs : List CertifiedItem). comparisons_after w.window w.beginning.requests cs call (run_in w log call).looks)
           (sym (take-map certified_of before reports) ∙ ap (take before) so_is.certified);
       told =
           ap (λ (r : Report). r.told) whole
@@ -383,7 +392,7 @@ report_of_call w log reports rows so law before call report is at stands =
           ∙ told_is w log reports rows so is law before call (omega arith) at report.verdict verdict;
     }
 
-pub report_of_history : (w : Setting) (log : Log) (reports : List Report) (rows : List Rows) → IsSoFar w log log reports rows → IsRepeating
+pub report_of_history : (w : Setting) (log : Log) (reports : List Report) (rows : List Rows) → IsSoFar w log log reports rows → IsRepeating w
     → (before : ℕ) (item : Item) (report : Report) → IsLog log → slice_get log before ≡ Some item → slice_get reports before ≡ Some report → IsReportOf w log before item report
 report_of_history w log reports rows so law before (CallItem call) report is at stands = report_of_call w log reports rows so law before call report is at stands
 report_of_history w log reports rows so law before (AdditionItem p) report is at stands =

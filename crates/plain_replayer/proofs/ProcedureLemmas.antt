@@ -11,7 +11,7 @@ use Rattle.std.proofs.Math.ListN.{get_or-append}
 use Rattle.std.proofs.Math.Seq.{drop-cons}
 use Rattle.log_model.specs.declared.verdict.Verdict.{Verdict}
 use Rattle.log_model.specs.declared.verdict.Verdict.TheVariants.{Commit, Conflict, Stale, Repeated, Taken}
-use Rattle.log_model.specs.Log.{StoredProcedure, Catalogue, by_number, Setting, Call, Item, CallItem, AdditionItem, Log, History, Database, first_database, database_now, database_after_item}
+use Rattle.log_model.specs.Log.{StoredProcedure, Catalogue, by_number, Setting, Call, Item, CallItem, AdditionItem, Log, History, Database, no_database, database_now, database_after_item}
 use Rattle.plain_replayer.specs.Report.{Report}
 use Rattle.plain_replayer.specs.Replay.{added_by, added_from, passes, procedures_of, procedures_at}
 
@@ -119,8 +119,8 @@ procedures-append : (w : Setting) (log : Log) (reports : List Report) (r : Repor
     → procedures_of w log (reports ++ r ∷ []) ≡ procedures_of w log reports ++ cons_option (added_by (Some item) r.verdict) []
 procedures-append w log reports r item is =
     let same : 0 + length reports ≡ length reports = omega arith in
-    ap (λ (ps : Catalogue). w.catalogue ++ ps) (added-append log 0 reports r ∙ (λ i. added_from log 0 reports ++ cons_option (added_by ((ap (slice_get log) same ∙ is) i) r.verdict) []))
-    ∙ sym (append_assoc w.catalogue (added_from log 0 reports) (cons_option (added_by (Some item) r.verdict) []))
+    ap (λ (ps : Catalogue). w.beginning.procedures ++ ps) (added-append log 0 reports r ∙ (λ i. added_from log 0 reports ++ cons_option (added_by ((ap (slice_get log) same ∙ is) i) r.verdict) []))
+    ∙ sym (append_assoc w.beginning.procedures (added_from log 0 reports) (cons_option (added_by (Some item) r.verdict) []))
 
 pub added_to : (w : Setting) (h : History) (item : Item) (v : Verdict) → (database_after_item w h item v).procedures ≡ (database_now h).procedures ++ cons_option (added_by (Some item) v) []
 unfolding database_after_item
@@ -132,10 +132,10 @@ added_to w h (AdditionItem p) (Repeated position) = sym (append-nil (database_no
 added_to w h (AdditionItem p) (Taken identifier) = sym (append-nil (database_now h).procedures)
 
 pub procedures_next : (w : Setting) (log : Log) (reports : List Report) (r : Report) (item : Item) (databases : List Database) (d : Database)
-    → ((p : ℕ) → procedures_at w log reports p ≡ (get_or databases p (first_database [])).procedures)
+    → ((p : ℕ) → procedures_at w log reports p ≡ (get_or databases p no_database).procedures)
     → length databases ≡ suc (length reports) → slice_get log (length reports) ≡ Some item
     → d.procedures ≡ procedures_of w log reports ++ cons_option (added_by (Some item) r.verdict) []
-    → (p : ℕ) → procedures_at w log (reports ++ r ∷ []) p ≡ (get_or (databases ++ d ∷ []) p (first_database [])).procedures
+    → (p : ℕ) → procedures_at w log (reports ++ r ∷ []) p ≡ (get_or (databases ++ d ∷ []) p no_database).procedures
 procedures_next w log reports r item databases d so count is after p =
     let grown : length (reports ++ r ∷ []) ≡ length reports + 1 = length-append reports (r ∷ []) in
     let longer : length (databases ++ d ∷ []) ≡ length databases + 1 = length-append databases (d ∷ []) in
@@ -145,16 +145,16 @@ procedures_next w log reports r item databases d so count is after p =
           ∙ ap (procedures_of w log) (take-append-le p reports (r ∷ []) (omega arith))
           ∙ sym (at_within w log reports p (omega arith))
           ∙ so p
-          ∙ ap (λ (e : Database). e.procedures) (sym (get_or-append databases (d ∷ []) (first_database []) p (omega arith)))
+          ∙ ap (λ (e : Database). e.procedures) (sym (get_or-append databases (d ∷ []) no_database p (omega arith)))
       | inr past ↦ elim (cases_lt (suc (length reports)) p) [
         | inl beyond ↦
             at_beyond w log (reports ++ r ∷ []) p (omega arith)
-            ∙ ap (λ (e : Database). e.procedures) (sym (get_or_past (databases ++ d ∷ []) p (first_database []) (omega arith)))
+            ∙ ap (λ (e : Database). e.procedures) (sym (get_or_past (databases ++ d ∷ []) p no_database (omega arith)))
         | inr last ↦
             at_within w log (reports ++ r ∷ []) p (omega arith)
             ∙ ap (procedures_of w log) (take_all p (reports ++ r ∷ []) (omega arith))
             ∙ procedures-append w log reports r item is
             ∙ sym after
-            ∙ ap (λ (e : Database). e.procedures) (sym (get_or_at databases d [] (first_database []) p (omega arith)))
+            ∙ ap (λ (e : Database). e.procedures) (sym (get_or_at databases d [] no_database p (omega arith)))
       ]
     ]

@@ -1,5 +1,5 @@
 -- What a replay says of a log.
-use Rattle.std.specs.Prelude.{◌≡◌, ℕ, suc, ◌+◌, ◌-◌, nat_le, ◌&&◌, Bool, false, if◌then◌else◌, List, [], ◌∷◌, ◌++◌, length, map, take, drop, slice_get, slice_index_or, Option, Some, None, option_map}
+use Rattle.std.specs.Prelude.{◌≡◌, ℕ, zero, suc, ◌+◌, ◌-◌, nat_le, ◌&&◌, Bool, false, if◌then◌else◌, List, [], ◌∷◌, ◌++◌, length, map, take, drop, slice_get, slice_index_or, Option, Some, None, option_map}
 use Rattle.std.specs.List.{cons_option}
 use Rattle.std.specs.FinMap.{empty}
 use Rattle.schema.specs.declared.look.Look.{Look}
@@ -9,7 +9,7 @@ use Rattle.sig_lanes.specs.Signature.{shares_bit}
 use Rattle.log_model.specs.declared.verdict.Verdict.{Verdict}
 use Rattle.log_model.specs.declared.verdict.Verdict.TheVariants.{Commit, Conflict, Stale, Repeated, Taken}
 use Rattle.plain_replayer.specs.Report.{Report, report_of_addition}
-use Rattle.log_model.specs.Log.{StoredProcedure, Catalogue, Setting, Call, Item, CallItem, AdditionItem, Log, run_of_call, CertifiedItem, is_commit, conflicts, first_position, unless_conflict, verdict_after, verdict_on_addition, if_commits, verdict_of, run_in}
+use Rattle.log_model.specs.Log.{StoredProcedure, Catalogue, Setting, reply_done, Call, Item, CallItem, AdditionItem, Log, run_of_call, CertifiedItem, is_commit, conflicts, first_position, unless_conflict, verdict_after, verdict_on_addition, if_commits, verdict_of, run_in}
 use Rattle.certify.specs.Comparisons.{comparisons_from, comparisons_after, comparisons_of}
 
 -- of each item, and the rows before the first and after each
@@ -23,11 +23,12 @@ reply_of_item w log (Some (CallItem call)) = Some (run_in w log call).reply
 reply_of_item w log (Some (AdditionItem p)) = None
 reply_of_item w log None = None
 
--- the reply that the caller of a call with this verdict is told: where it commits its own, and where it is repeated that of
--- the call that it repeats
+-- the reply that the caller of a call with this verdict is told: where it commits its own. Where it is repeated, the reply is
+-- that of the call that it repeats, or of its request where this was done before the log
 abbrev pub told_reply : Setting → Log → Call → Verdict → Option ℕ
 told_reply w log call Commit = Some (run_in w log call).reply
-told_reply w log call (Repeated position) = reply_of_item w log (slice_get log (position - 1))
+told_reply w log call (Repeated zero) = reply_done w.beginning.requests call.request
+told_reply w log call (Repeated (suc before)) = reply_of_item w log (slice_get log before)
 told_reply w log call (Conflict position) = None
 told_reply w log call Stale = None
 told_reply w log call (Taken identifier) = None
@@ -62,9 +63,9 @@ unfoldable pub added_from : Log → ℕ → List Report → Catalogue
 added_from log before [] = []
 added_from log before (report ∷ later) = cons_option (added_by (slice_get log before) report.verdict) (added_from log (before + 1) later)
 
--- the procedures after the items of which this is said: those of the catalogue, and behind them those that were added
+-- the procedures after the items of which this is said: those of the beginning, and behind them those that were added
 abbrev pub procedures_of : Setting → Log → List Report → Catalogue
-procedures_of w log reports = w.catalogue ++ added_from log 0 reports
+procedures_of w log reports = w.beginning.procedures ++ added_from log 0 reports
 
 -- ---- No clause that a caller sees speaks of what follows.
 
@@ -111,9 +112,9 @@ report_of_run w past call r = record {
   reply = r.reply;
   looks = r.looks;
   writes = r.writes;
-  verdict = verdict_after w.window (map certified_of past) call r.looks;
-  comparisons = comparisons_after w.window (map certified_of past) call r.looks;
-  told = told_by past (verdict_after w.window (map certified_of past) call r.looks) r.reply;
+  verdict = verdict_after w.window w.beginning.requests (map certified_of past) call r.looks;
+  comparisons = comparisons_after w.window w.beginning.requests (map certified_of past) call r.looks;
+  told = told_by past (verdict_after w.window w.beginning.requests (map certified_of past) call r.looks) r.reply;
 }
 
 -- the run of a call of the procedures of its snapshot, on some rows

@@ -78,6 +78,7 @@ pub fn replay_log<A: Allocator + Copy, B: Allocator>(
 {
     // Laws:
     verdicts_in_words_of_the_log();
+    setting.begins_empty();
     let mut reports = Vec::new(alloc);
     let mut rows = Vec::new(alloc);
     rows.push(RowList::new(alloc))?;
@@ -168,6 +169,7 @@ fn report_of_call<A: Allocator + Copy, B: Allocator>(
     ensures { IfOk result (λ report. report
         ≡ report_after setting.now log.now past.now rows.now (CallItem call.now)) }
 {
+    setting.begins_empty();
     let run = run_of_call(
         alloc,
         setting,

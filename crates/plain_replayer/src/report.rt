@@ -80,8 +80,8 @@ impl<A: Allocator> ItemReport<A> {
         reply_of(&self.run)
     }
 
-    /// The reply that the call's caller is told: its own where it commits, that of the earlier call where it is
-    /// repeated.
+    /// The reply that the call's caller is told: its own where it commits. Where it is repeated, the reply is that of
+    /// the earlier call.
     pub fn told_reply(&self) -> Option<u64>
         ensures { result ≡ self.now.told }
     {

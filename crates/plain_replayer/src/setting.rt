@@ -1,6 +1,7 @@
 //! The setting that all replicas have in common, as the definitions have it.
 
-ghost use Rattle.std.specs.Prelude.{◌≡◌, option_map};
+ghost use Rattle.std.specs.Prelude.{◌≡◌, [], option_map};
+ghost use Rattle.std.specs.FinMap.{empty};
 ghost use Rattle.log_model.specs.Log.{by_name, by_number};
 
 use bpf_code::Code;
@@ -86,6 +87,8 @@ pub struct PlainSetting<A: Allocator = Global> {
 }
 
 impl<A: Allocator> Model for PlainSetting<A> {
+    ghost use Rattle.std.specs.Prelude.{[]};
+    ghost use Rattle.std.specs.FinMap.{empty};
     ghost use Rattle.log_model.specs.Log.{Setting};
     ghost use Rattle.plain_replayer.specs.LogCodes.{setting_code};
 
@@ -95,7 +98,7 @@ impl<A: Allocator> Model for PlainSetting<A> {
 
     ghost view = { λ w. record {
       tables = w.schema;
-      catalogue = w.catalogue.items;
+      beginning = record { rows = empty; procedures = w.catalogue.items; requests = [] };
       window = w.window;
     } };
 }
@@ -109,7 +112,7 @@ impl<A: Allocator> PlainSetting<A> {
     ) -> PlainSetting<A>
         ensures { result ≡ record {
           tables = schema;
-          catalogue = catalogue.items;
+          beginning = record { rows = empty; procedures = catalogue.items; requests = [] };
           window = window;
         } }
     {
@@ -118,6 +121,15 @@ impl<A: Allocator> PlainSetting<A> {
             catalogue,
             window,
         }
+    }
+
+    /// The setting begins without rows, and no request was done before its log.
+    pub(crate) fn begins_empty(&self)
+        ensures rows { self.now.beginning.rows ≡ empty }
+        ensures requests { self.now.beginning.requests ≡ [] }
+    {
+        // A part is looked at, so that the record is known.
+        let _ = &self.window;
     }
 
     /// The tables.
@@ -136,7 +148,7 @@ impl<A: Allocator> PlainSetting<A> {
 
     /// The procedure of a number, the first that was entered.
     pub fn procedure(&self, number: u16) -> Option<&PlainProcedure<A>>
-        ensures { option_map (λ p. p.now) result ≡ by_number self.now.catalogue number }
+        ensures { option_map (λ p. p.now) result ≡ by_number self.now.beginning.procedures number }
     {
         self.catalogue
             .iter()
@@ -145,7 +157,7 @@ impl<A: Allocator> PlainSetting<A> {
 
     /// The procedure of a name, the first that was entered.
     pub fn procedure_named(&self, name: &[u8]) -> Option<&PlainProcedure<A>>
-        ensures { option_map (λ p. p.now) result ≡ by_name self.now.catalogue name.now }
+        ensures { option_map (λ p. p.now) result ≡ by_name self.now.beginning.procedures name.now }
     {
         self.catalogue
             .iter()

@@ -1,6 +1,6 @@
 //! Verdicts on calls and comparisons, by what became of the items before.
 
-ghost use Rattle.std.specs.Prelude.{◌≡◌, ◌+◌, ◌-◌, ◌<◌, ◌≤◌, ◌^◌, length, map, drop, nat_le, ◌++◌, IfOk, OnOk};
+ghost use Rattle.std.specs.Prelude.{◌≡◌, ◌+◌, ◌-◌, ◌<◌, ◌≤◌, ◌^◌, [], length, map, drop, nat_le, ◌++◌, IfOk, OnOk};
 ghost use Rattle.log_model.specs.Log.{is_commit, same_request, conflicts, repeats, first_position, unless_repeated};
 ghost use Rattle.log_model.specs.Log.{unless_conflict, verdict_after};
 ghost use Rattle.certify.specs.Comparisons.{comparisons_from, comparisons_after};
@@ -181,7 +181,7 @@ pub(crate) fn verdict_after<A: Allocator, B: Allocator>(
     looks: &[Look],
 ) -> Verdict
     requires { length past.now < 2 ^ 32 }
-    ensures { result ≡ verdict_after window (map certified_of past.now) call.now looks.now }
+    ensures { result ≡ verdict_after window [] (map certified_of past.now) call.now looks.now }
 {
     let first = first_repeated(call.request(), past);
     unless_repeated(first, verdict_on_new(window, past, call, looks))
@@ -217,7 +217,7 @@ pub(crate) fn comparisons_after<A: Allocator, B: Allocator, C: Allocator>(
 ) -> Result<Vec<u32, C>, AllocError>
     requires { length past.now < 2 ^ 32 }
     ensures { IfOk result (λ list.
-        list.items ≡ comparisons_after window (map certified_of past.now) call.now looks.now) }
+        list.items ≡ comparisons_after window [] (map certified_of past.now) call.now looks.now) }
 {
     match first_repeated(call.request(), past) {
         Some(_) => Ok(Vec::new(alloc)),

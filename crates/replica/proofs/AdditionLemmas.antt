@@ -5,7 +5,7 @@ use Rattle.schema.specs.Schema.{Tables}
 use Rattle.log_model.specs.declared.verdict.Identifier.TheVariants.{Name, Number}
 use Rattle.log_model.specs.declared.verdict.Verdict.{Verdict}
 use Rattle.log_model.specs.declared.verdict.Verdict.TheVariants.{Commit, Conflict, Stale, Repeated, Taken}
-use Rattle.log_model.specs.Log.{StoredProcedure, Catalogue, CertifiedItem, certified_addition, certified_call_after, by_name, by_number, if_commits, is_commit, verdict_on_addition}
+use Rattle.log_model.specs.Log.{StoredProcedure, Catalogue, DoneRequest, CertifiedItem, certified_addition, certified_call_after, by_name, by_number, if_commits, is_commit, verdict_on_addition}
 use Rattle.log_model.specs.Entries.{Entry, ExecutedCall, CallEntry, AdditionEntry, CertifiedEntries, with_entry}
 use Rattle.std.specs.FinMap.{empty, get-empty}
 use Rattle.schema.specs.Rows.{key_cmp}
@@ -29,11 +29,11 @@ stored_if (Repeated n) before l = refl
 stored_if (Taken n) before l = refl
 
 pub addition_kept : (window : ℕ) (old new : certifier.Memory) (before after : List ListedProcedure) (l : ListedProcedure)
-    → ((past : List CertifiedItem) → certifier.IsMemoryOf old past → certifier.IsMemoryOf new (past ++ certified_addition (stored_procedures before) (stored l) ∷ []))
+    → ((done : List DoneRequest) (past : List CertifiedItem) → certifier.IsMemoryOf old done past → certifier.IsMemoryOf new done (past ++ certified_addition (stored_procedures before) (stored l) ∷ []))
     → after ≡ if_commits (verdict_on_addition (stored_procedures before) (stored l)) (before ++ l ∷ []) before
     → (past : CertifiedEntries) → KeepsCertified old before past → KeepsCertified new after (with_entry window past (AdditionEntry (stored l)))
 addition_kept window old new before after l memory is past keeps = record {
-  memory = subst (λ (ps : Catalogue). certifier.IsMemoryOf new (past.certified ++ certified_addition ps (stored l) ∷ [])) keeps.procedures (memory past.certified keeps.memory);
+  memory = subst (λ (ps : Catalogue). certifier.IsMemoryOf new past.done (past.certified ++ certified_addition ps (stored l) ∷ [])) keeps.procedures (memory past.done past.certified keeps.memory);
   procedures = ap stored_procedures is ∙ stored_if (verdict_on_addition (stored_procedures before) (stored l)) before l
       ∙ ap (λ (ps : Catalogue). if_commits (verdict_on_addition ps (stored l)) (ps ++ stored l ∷ []) ps) keeps.procedures;
 }
@@ -87,8 +87,8 @@ taken_in (Ok c) position e old new certified kept count installs refuses entered
 taken_in (Err failed) position e old new certified kept count installs refuses entered = tt
 
 pub call_kept : {E : Type 0} (r : Result Certification E) (old new : certifier.Memory) (held : List ListedProcedure) (x : ExecutedCall)
-    → OnOk r ((past : List CertifiedItem) → certifier.IsMemoryOf old past
-    → certifier.IsMemoryOf new (past ++ certified_call_after old.window past x.call x.looks x.writes ∷ []))
+    → OnOk r ((done : List DoneRequest) (past : List CertifiedItem) → certifier.IsMemoryOf old done past
+    → certifier.IsMemoryOf new done (past ++ certified_call_after old.window done past x.call x.looks x.writes ∷ []))
     → OnOk r ((past : CertifiedEntries) → KeepsCertified old held past → KeepsCertified new held (with_entry old.window past (CallEntry x)))
-call_kept (Ok c) old new held x memory = λ past keeps. record { memory = memory past.certified keeps.memory; procedures = keeps.procedures }
+call_kept (Ok c) old new held x memory = λ past keeps. record { memory = memory past.done past.certified keeps.memory; procedures = keeps.procedures }
 call_kept (Err failed) old new held x memory = tt

@@ -11,14 +11,15 @@ use Rattle.std.specs.FinMap.{empty}
 use Rattle.rows_mv.specs.Versions.{AnswersFrom, AreEmpty, IsInstalled}
 use Rattle.log_model.specs.declared.verdict.Verdict.{Verdict}
 use Rattle.log_model.specs.declared.verdict.Verdict.TheVariants.{Commit, Conflict, Stale, Repeated, Taken}
-use Rattle.log_model.specs.Log.{Catalogue, is_commit, if_commits}
+use Rattle.log_model.specs.Log.{Beginning, is_commit, if_commits}
 use Rattle.log_model.specs.Entries.{Entry, CallEntry, AdditionEntry, CertifiedEntries, certified_entry, with_entry, certified_entries_of}
+use Rattle.catalogue.specs.Catalogue.{SystemCatalogue, beginning_of}
 use Rattle.catalogue.specs.Stored.{stored_procedures}
 use Rattle.certify.specs.Kept as certifier
 use Rattle.certify.specs.declared.certification.Certification.{Certification}
 use Rattle.replica.specs.Replica.{rows_kept, KeepsRows, certification_next, AreCertificationsOf, Replica, StandsFor, writes_in}
 use Rattle.replica.specs.Delivery.{HasSameVersions, KeepsCertified, IsDelivered, IsRefusedDelivery}
-use Rattle.replica.proofs.KeepsLemmas.{LaysOn, certified_more, next_item, rows_later, rows_before}
+use Rattle.replica.proofs.KeepsLemmas.{LaysOn, certified_more, keeps_of, memory_of, next_item, rows_later, rows_before}
 
 -- the laws of one more install
 pub record Installs : Type 0 where
@@ -62,7 +63,7 @@ same_verdict : (window : ℕ) (past : CertifiedEntries) (e : Entry) → (certifi
 same_verdict window past (CallEntry e) = refl
 same_verdict window past (AdditionEntry p) = refl
 
-next_answers : LaysOn → Installs → (old new : List Table) (window position s : ℕ) (base : Catalogue) (entries : List Entry) (e : Entry) → position ≡ length entries
+next_answers : LaysOn → Installs → (old new : List Table) (window position s : ℕ) (base : Beginning) (entries : List Entry) (e : Entry) → position ≡ length entries
     → (is_commit (next_item window base entries e).verdict ≡ true → IsInstalled (position + 1) (next_item window base entries e).writes old new)
     → (is_commit (next_item window base entries e).verdict ≡ false → HasSameVersions old new)
     → AnswersFrom old s (rows_kept window base entries s) → AnswersFrom new s (rows_kept window base (entries ++ e ∷ []) s)
@@ -90,7 +91,7 @@ get_end (x ∷ xs) y (suc i) is = get_end xs y i (omega arith)
 pub same_some : {X : Type 0} (x y : X) → Some x ≡ Some y → x ≡ y
 same_some x y is = cc
 
-certifications_more : (window : ℕ) (base : Catalogue) (entries : List Entry) (e : Entry) (certifications : List Certification) (c : Certification)
+certifications_more : (window : ℕ) (base : Beginning) (entries : List Entry) (e : Entry) (certifications : List Certification) (c : Certification)
     → AreCertificationsOf window base entries certifications → c ≡ certification_next window (certified_entries_of window base entries) e
     → AreCertificationsOf window base (entries ++ e ∷ []) (certifications ++ c ∷ [])
 certifications_more window base entries e certifications c are is =
@@ -117,13 +118,13 @@ certifications_more window base entries e certifications c are is =
 
 -- ---- the replica
 
-pub delivered : LaysOn → Installs → (base : Catalogue) (old new : Replica) (e : Entry) (c : Certification) (installed : List Table) (entries : List Entry) → IsDelivered old new e c installed → StandsFor base old entries → StandsFor base new (entries ++ e ∷ [])
+pub delivered : LaysOn → Installs → (base : Beginning) (old new : Replica) (e : Entry) (c : Certification) (installed : List Table) (entries : List Entry) → IsDelivered old new e c installed → StandsFor base old entries → StandsFor base new (entries ++ e ∷ [])
 delivered lays law base old new e c installed entries is stands =
     let at = stands.position in
     let next = is.position in
     let more : length (entries ++ e ∷ []) ≡ length entries + 1 = length-append entries (e ∷ []) in
     let past = certified_entries_of old.window base entries in
-    let before : KeepsCertified old.memory old.procedures past = record { memory = stands.memory; procedures = stands.procedures } in
+    let before : KeepsCertified old.memory old.procedures past = keeps_of old.memory old.procedures old.window base entries stands.memory stands.procedures in
     let certified : c ≡ certification_next old.window past e =
     is.certified past before ∙ ap (λ (w : ℕ). certification_next w past e) stands.window in
     let verdict : c.verdict ≡ (next_item old.window base entries e).verdict = ap (λ (x : Certification). x.verdict) certified ∙ same_verdict old.window past e in
@@ -141,7 +142,7 @@ delivered lays law base old new e c installed entries is stands =
     record {
       position = omega arith;
       window = is.same_window ∙ stands.window ∙ same;
-      memory = subst (λ (w : ℕ). certifier.IsMemoryOf new.memory (certified_entries_of w base all).certified) same kept.memory;
+      memory = subst (λ (w : ℕ). certifier.IsMemoryOf new.memory base.requests (certified_entries_of w base all).certified) same (memory_of new.memory new.procedures old.window base all kept);
       horizon = is.horizon;
       rows = subst (λ (w : ℕ). KeepsRows w base new.versions all new.position) same keeps;
       certifications = subst (λ (w : ℕ). AreCertificationsOf w base all new.certifications) same
@@ -149,7 +150,7 @@ delivered lays law base old new e c installed entries is stands =
       procedures = subst (λ (w : ℕ). stored_procedures new.procedures ≡ (certified_entries_of w base all).procedures) same kept.procedures;
     }
 
-pub refused : (base : Catalogue) (old new : Replica) (entries : List Entry) → IsRefusedDelivery old new → StandsFor base old entries → StandsFor base new entries
+pub refused : (base : Beginning) (old new : Replica) (entries : List Entry) → IsRefusedDelivery old new → StandsFor base old entries → StandsFor base new entries
 refused base old new entries is stands =
     let position = is.position in
     let window = is.window in
@@ -161,7 +162,7 @@ refused base old new entries is stands =
     record {
       position = is.position ∙ stands.position;
       window = ap (λ (m : certifier.Memory). m.window) is.memory ∙ stands.window ∙ same;
-      memory = subst (λ (w : ℕ). certifier.IsMemoryOf new.memory (certified_entries_of w base entries).certified) same (subst (λ (m : certifier.Memory). certifier.IsMemoryOf m (certified_entries_of old.window base entries).certified) (sym is.memory) stands.memory);
+      memory = subst (λ (w : ℕ). certifier.IsMemoryOf new.memory base.requests (certified_entries_of w base entries).certified) same (subst (λ (m : certifier.Memory). certifier.IsMemoryOf m base.requests (certified_entries_of old.window base entries).certified) (sym is.memory) stands.memory);
       horizon = omega arith;
       rows = subst (λ (w : ℕ). KeepsRows w base new.versions entries new.position) same keeps;
       certifications = subst (λ (w : ℕ). AreCertificationsOf w base entries new.certifications) same (subst (AreCertificationsOf old.window base entries) (sym is.certifications) stands.certifications);
@@ -169,16 +170,16 @@ refused base old new entries is stands =
     }
 
 -- at first, with no versions
-pub stands_at_first : (base : Catalogue) (r : Replica) → ((s : ℕ) (tables : List Table) → AreEmpty tables → AnswersFrom tables s empty) → ((window s : ℕ) (base : Catalogue) → rows_kept window base [] s ≡ empty)
-    → r.position ≡ 0 → r.memory.window ≡ r.window → certifier.IsMemoryOf r.memory [] → r.versions.horizon ≡ 0 → AreEmpty r.versions.tables → r.certifications ≡ [] → stored_procedures r.procedures ≡ base
-    → StandsFor base r []
+pub stands_at_first : (catalogue : SystemCatalogue) (r : Replica) → ((s : ℕ) (tables : List Table) → AreEmpty tables → AnswersFrom tables s empty) → ((window s : ℕ) (base : Beginning) → rows_kept window base [] s ≡ base.rows)
+    → r.position ≡ 0 → r.memory.window ≡ r.window → certifier.IsMemoryOf r.memory [] [] → r.versions.horizon ≡ 0 → AreEmpty r.versions.tables → r.certifications ≡ [] → stored_procedures r.procedures ≡ catalogue.procedures
+    → StandsFor (beginning_of catalogue) r []
 unfolding certified_entries_of
-stands_at_first base r answers rows position window memory horizon none certifications procedures = record {
+stands_at_first catalogue r answers rows position window memory horizon none certifications procedures = record {
   position = position;
   window = window;
   memory = memory;
   horizon = omega arith;
-  rows = λ s near. moved r.versions.tables s (rows_kept r.window base [] s) empty (rows r.window s base) (answers s r.versions.tables none);
+  rows = λ s near. moved r.versions.tables s (rows_kept r.window (beginning_of catalogue) [] s) empty (rows r.window s (beginning_of catalogue)) (answers s r.versions.tables none);
   certifications = record {
     count = ap (λ (l : List Certification). length l) certifications;
     each = λ before e at. let bad : None ≡ Some e = at in cc;

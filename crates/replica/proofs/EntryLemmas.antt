@@ -101,7 +101,7 @@ entries_first w entries more are =
     let log = log_first 0 (items_of entries) (items_of more) (subst IsLog items are.log) in
     let count = items_count entries in
     record {
-      procedures = are.procedures;
+      begins = are.begins;
       log = log;
       items = all_items_first w (items_of entries) (items_of more) 0 (items_of entries) log (omega arith)
           (all_first (IsItem w (items_of entries ++ items_of more)) (items_of entries) (items_of more) (subst (λ (l : Log). AreItems w l) items are.items));
@@ -121,7 +121,7 @@ entries_snoc one w entries e are is placed carries =
     let items = sym (items_append entries (e ∷ [])) in
     let there = subst (λ (n : ℕ). IsPlaced n (item_of e)) (sym (items_count entries)) placed in
     record {
-      procedures = are.procedures;
+      begins = are.begins;
       log = subst IsLog items (is_log_snoc 0 (items_of entries) (item_of e) are.log (subst (λ (n : ℕ). IsPlaced n (item_of e)) (let same : length (items_of entries) ≡ 0 + length (items_of entries) = omega arith in same) there));
       items = subst (λ (l : Log). AreItems w l) items (are_items_snoc w (items_of entries) (item_of e) are.log are.items there is);
       runs = one w entries e are.log are.runs placed carries;

@@ -16,7 +16,7 @@ HasSameVersions old new = (k : Key) → versions_at (slots_of new k.0) k.1 ≡ v
 
 -- what a replica keeps for verdicts is of these
 pub record KeepsCertified (m : certifier.Memory) (held : List ListedProcedure) (past : CertifiedEntries) : Type 0 where
-  pub memory : certifier.IsMemoryOf m past.certified
+  pub memory : certifier.IsMemoryOf m past.done past.certified
   pub procedures : stored_procedures held ≡ past.procedures
 
 -- what an entry changes of what a replica keeps

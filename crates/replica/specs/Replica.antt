@@ -6,10 +6,10 @@ use Rattle.schema.specs.Rows.{Rows, Writes}
 use Rattle.schema.specs.declared.look.Look.{Look}
 use Rattle.log_model.specs.InstalledWrites.{map_after}
 use Rattle.log_model.specs.declared.verdict.Verdict.{Verdict}
-use Rattle.log_model.specs.Log.{Catalogue, Setting, Call as OrderedCall, CertifiedItem, IsLog, verdict_after, verdict_of, rows_after, procedures_after}
+use Rattle.log_model.specs.Log.{DoneRequest, Beginning, Setting, Call as OrderedCall, CertifiedItem, IsLog, verdict_after, verdict_of, rows_after, procedures_after}
 use Rattle.certify.specs.Comparisons.{comparisons_after}
 use Rattle.log_model.specs.Entries.{Entry, CallEntry, AdditionEntry, items_of, CarryRuns, CertifiedEntries, certified_entry, certified_entries_of, installed_from}
-use Rattle.log_model.specs.Fit.{HasSafeProcedures, AreItems}
+use Rattle.log_model.specs.Fit.{BeginsSafely, AreItems}
 use Rattle.rows_mv.specs.Versions.{Versions, AnswersFrom, AreOfTables, HaveTables, HaveWidths, width_of}
 use Rattle.catalogue.specs.Stored.{ListedProcedure, AreForTables, stored_procedures}
 use Rattle.log_model.specs.Name.{is_name}
@@ -19,33 +19,33 @@ use Rattle.log_entry.specs.Kind.{entry_of}
 use Rattle.certify.specs.Kept as certifier
 use Rattle.certify.specs.declared.certification.Certification.{Certification}
 
--- the rows after a position, by the delivered entries alone, and the procedures at first
-abbrev pub rows_kept : ℕ → Catalogue → List Entry → ℕ → Rows
-rows_kept window base entries s = map_after (installed_from 1 (certified_entries_of window base entries).certified) s
+-- the rows after a position, by the beginning and the delivered entries alone
+abbrev pub rows_kept : ℕ → Beginning → List Entry → ℕ → Rows
+rows_kept window base entries s = map_after base.rows (installed_from 1 (certified_entries_of window base entries).certified) s
 
 -- each position within the window, and each later one, answers from the rows after it
-abbrev pub KeepsRows : ℕ → Catalogue → Versions → List Entry → ℕ → Type 0
+abbrev pub KeepsRows : ℕ → Beginning → Versions → List Entry → ℕ → Type 0
 KeepsRows window base versions entries position =
     (s : ℕ) → position - s ≤ window → AnswersFrom versions.tables s (rows_kept window base entries s)
 
 -- the verdict on the next call, and how many exact comparisons it takes
-abbrev pub certification_after : ℕ → List CertifiedItem → OrderedCall → List Look → Certification
-certification_after window past call looks = record {
-  verdict = verdict_after window past call looks;
-  compared = length (comparisons_after window past call looks);
+abbrev pub certification_after : ℕ → List DoneRequest → List CertifiedItem → OrderedCall → List Look → Certification
+certification_after window done past call looks = record {
+  verdict = verdict_after window done past call looks;
+  compared = length (comparisons_after window done past call looks);
 }
 
 -- that of the next entry: an addition takes no comparison
 abbrev pub certification_next : ℕ → CertifiedEntries → Entry → Certification
-certification_next window past (CallEntry e) = certification_after window past.certified e.call e.looks
+certification_next window past (CallEntry e) = certification_after window past.done past.certified e.call e.looks
 certification_next window past (AdditionEntry p) = record { verdict = (certified_entry window past (AdditionEntry p)).verdict; compared = 0 }
 
 -- that of an entry which has so many before it
-abbrev pub certification_of : ℕ → Catalogue → List Entry → ℕ → Entry → Certification
+abbrev pub certification_of : ℕ → Beginning → List Entry → ℕ → Entry → Certification
 certification_of window base entries before e = certification_next window (certified_entries_of window base (take before entries)) e
 
 -- that of each entry
-pub record AreCertificationsOf (window : ℕ) (base : Catalogue) (entries : List Entry) (certifications : List Certification) : Type 0 where
+pub record AreCertificationsOf (window : ℕ) (base : Beginning) (entries : List Entry) (certifications : List Certification) : Type 0 where
   pub count : length certifications ≡ length entries
   pub each : (before : ℕ) (e : Entry) → slice_get entries before ≡ Some e
       → slice_get certifications before ≡ Some (certification_of window base entries before e)
@@ -67,11 +67,11 @@ pub record IsReplica (r : Replica) : Type 0 where
   pub window : r.memory.window ≡ r.window
   pub horizon : r.versions.horizon ≤ r.position - r.window
 
--- what it keeps is of these entries, in the order of their delivery, where these are the procedures at first
-pub record StandsFor (base : Catalogue) (r : Replica) (entries : List Entry) : Type 0 where
+-- what it keeps is of these entries, in the order of their delivery, after this beginning
+pub record StandsFor (base : Beginning) (r : Replica) (entries : List Entry) : Type 0 where
   pub position : r.position ≡ length entries
   pub window : r.memory.window ≡ r.window
-  pub memory : certifier.IsMemoryOf r.memory (certified_entries_of r.window base entries).certified
+  pub memory : certifier.IsMemoryOf r.memory base.requests (certified_entries_of r.window base entries).certified
   pub horizon : r.versions.horizon ≤ r.position - r.window
   pub rows : KeepsRows r.window base r.versions entries r.position
   pub certifications : AreCertificationsOf r.window base entries r.certifications
@@ -80,7 +80,7 @@ pub record StandsFor (base : Catalogue) (r : Replica) (entries : List Entry) : T
 -- the replica stands for these entries in a setting: its window, its tables and the tables of its procedures are the
 -- setting's
 pub record StandsIn (w : Setting) (r : Replica) (entries : List Entry) : Type 0 where
-  pub delivered : StandsFor w.catalogue r entries
+  pub delivered : StandsFor w.beginning r entries
   pub window : r.window ≡ w.window
   pub tables : HaveTables w.tables r.versions.tables
   pub procedures : AreForTables w.tables r.procedures
@@ -94,7 +94,7 @@ pub record FitTables (versions : Versions) (writes : Writes) : Type 0 where
 
 -- the entries are of a log of this setting, and each call carries its run
 pub record AreEntriesOf (w : Setting) (entries : List Entry) : Type 0 where
-  pub procedures : HasSafeProcedures w
+  pub begins : BeginsSafely w
   pub log : IsLog (items_of entries)
   pub items : AreItems w (items_of entries)
   pub runs : CarryRuns w entries
@@ -138,15 +138,15 @@ pub record HasSameTables (old new : Replica) : Type 0 where
 pub record HasDelivered (old new : Replica) (e : Entry) (v : Verdict) : Type 0 where
   pub position : new.position ≡ old.position + 1
   pub running : new.stopped ≡ false
-  pub stands : (base : Catalogue) (past : List Entry) → StandsFor base old past → StandsFor base new (past ++ e ∷ [])
-  pub verdict : (base : Catalogue) (past : List Entry) → StandsFor base old past
+  pub stands : (base : Beginning) (past : List Entry) → StandsFor base old past → StandsFor base new (past ++ e ∷ [])
+  pub verdict : (base : Beginning) (past : List Entry) → StandsFor base old past
       → v ≡ (certified_entry old.window (certified_entries_of old.window base past) e).verdict
-  pub log_verdict : (w : Setting) (past : List Entry) → w.window ≡ old.window → StandsFor w.catalogue old past
+  pub log_verdict : (w : Setting) (past : List Entry) → w.window ≡ old.window → StandsFor w.beginning old past
       → AreEntriesOf w (past ++ e ∷ []) → verdict_of w (items_of (past ++ e ∷ [])) new.position ≡ Some v
-  pub log_rows : (w : Setting) (past : List Entry) → w.window ≡ old.window → StandsFor w.catalogue old past
+  pub log_rows : (w : Setting) (past : List Entry) → w.window ≡ old.window → StandsFor w.beginning old past
       → AreEntriesOf w (past ++ e ∷ [])
       → AnswersFrom new.versions.tables new.position (rows_after w (items_of (past ++ e ∷ [])) new.position)
-  pub log_procedures : (w : Setting) (past : List Entry) → w.window ≡ old.window → StandsFor w.catalogue old past
+  pub log_procedures : (w : Setting) (past : List Entry) → w.window ≡ old.window → StandsFor w.beginning old past
       → AreEntriesOf w (past ++ e ∷ [])
       → stored_procedures new.procedures ≡ procedures_after w (items_of (past ++ e ∷ [])) new.position
 
@@ -155,4 +155,4 @@ pub record HasStopped (old new : Replica) : Type 0 where
   pub position : new.position ≡ old.position
   pub stopped : new.stopped ≡ true
   pub procedures : new.procedures ≡ old.procedures
-  pub stands : (base : Catalogue) (past : List Entry) → StandsFor base old past → StandsFor base new past
+  pub stands : (base : Beginning) (past : List Entry) → StandsFor base old past → StandsFor base new past

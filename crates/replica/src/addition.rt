@@ -2,7 +2,7 @@
 
 ghost use Rattle.std.specs.Prelude.{◌≡◌, ◌+◌, [], ◌∷◌, ◌++◌, List, true, None, IfOk, OnOk, OnErr};
 ghost use Rattle.log_model.specs.declared.verdict.Verdict.TheVariants.{Commit as Commits};
-ghost use Rattle.log_model.specs.Log.{CertifiedItem, by_name, by_number, certified_addition, if_commits};
+ghost use Rattle.log_model.specs.Log.{DoneRequest, CertifiedItem, by_name, by_number, certified_addition, if_commits};
 ghost use Rattle.log_model.specs.Log.{verdict_on_addition};
 ghost use Rattle.log_model.specs.Name.{is_name};
 ghost use Rattle.catalogue.specs.Stored.{stored, stored_procedures};
@@ -67,8 +67,8 @@ pub(crate) fn take_addition<A: Allocator + Copy, P: Allocator + Copy>(
           verdict = verdict_on_addition (stored_procedures procedures.old) (stored added.now);
           compared = 0;
         }) }
-    ensures memory { OnOk result ((past : List CertifiedItem) → IsMemoryOf certifier.old.memory past
-        → IsMemoryOf certifier.new.memory
+    ensures memory { OnOk result ((done : List DoneRequest) (past : List CertifiedItem) → IsMemoryOf certifier.old.memory done past
+        → IsMemoryOf certifier.new.memory done
         (past ++ certified_addition (stored_procedures procedures.old) (stored added.now) ∷ [])) }
     ensures procedures { IfOk result (λ c. procedures.new
         ≡ if_commits c.verdict (procedures.old ++ added.now ∷ []) procedures.old) }

@@ -5,7 +5,7 @@ ghost use Rattle.std.specs.Prelude.{OnErr};
 ghost use Rattle.schema.specs.Rows.{Rows};
 ghost use Rattle.rows_mv.specs.Versions.{AnswersFrom, IsInstalled, width_of};
 ghost use Rattle.schema.specs.Schema.{Tables};
-ghost use Rattle.log_model.specs.Log.{CertifiedItem, IsPlaced, certified_call_after, is_commit};
+ghost use Rattle.log_model.specs.Log.{DoneRequest, CertifiedItem, IsPlaced, certified_call_after, is_commit};
 ghost use Rattle.log_model.specs.Entries.{item_of};
 ghost use Rattle.log_entry.specs.Kind.{entry_of};
 ghost use Rattle.catalogue.specs.Stored.{AreForTables};
@@ -68,11 +68,11 @@ fn take_call<A: Allocator + Copy, B: Allocator + Copy>(
     requires next { position ≡ certifier.old.memory.count + 1 }
     requires snapshot { call.now.call.snapshot < position }
     requires fit { FitTables versions.old call.now.writes }
-    ensures certified { IfOk result (λ c. (past : List CertifiedItem) → IsMemoryOf certifier.old.memory past
-        → c ≡ certification_after certifier.old.memory.window past call.now.call call.now.looks) }
-    ensures memory { OnOk result ((past : List CertifiedItem) → IsMemoryOf certifier.old.memory past
-        → IsMemoryOf certifier.new.memory
-        (past ++ certified_call_after certifier.old.memory.window past call.now.call call.now.looks call.now.writes
+    ensures certified { IfOk result (λ c. (done : List DoneRequest) (past : List CertifiedItem) → IsMemoryOf certifier.old.memory done past
+        → c ≡ certification_after certifier.old.memory.window done past call.now.call call.now.looks) }
+    ensures memory { OnOk result ((done : List DoneRequest) (past : List CertifiedItem) → IsMemoryOf certifier.old.memory done past
+        → IsMemoryOf certifier.new.memory done
+        (past ++ certified_call_after certifier.old.memory.window done past call.now.call call.now.looks call.now.writes
         ∷ [])) }
     ensures window { certifier.new.memory.window ≡ certifier.old.memory.window }
     ensures taken { OnOk result (certifier.new.memory.count ≡ position) }

@@ -6,7 +6,7 @@ ghost use Rattle.schema.specs.Schema.{Tables};
 ghost use Rattle.schema.specs.Rows.{Writes, AreWrites, after_writes};
 ghost use Rattle.rows_mv.specs.Versions.{Versions, AnswersFrom, HaveTables, width_of, IsInstalled};
 ghost use Rattle.log_model.specs.declared.verdict.Verdict.{Verdict};
-ghost use Rattle.log_model.specs.Log.{Catalogue, CertifiedItem, Setting, verdict_of, if_commits, rows_after};
+ghost use Rattle.log_model.specs.Log.{Beginning, DoneRequest, CertifiedItem, Setting, verdict_of, if_commits, rows_after};
 ghost use Rattle.log_model.specs.Log.{procedures_after, IsPlaced, certified_addition, verdict_on_addition};
 ghost use Rattle.log_model.specs.Fit.{IsItem};
 ghost use Rattle.certify.specs.Kept as certifier;
@@ -32,12 +32,12 @@ pub fn tables_take_the_schemas_writes()
 
 /// One more entry lays its writes on the rows where it commits, from its own position on; the rows before stay.
 pub fn rows_of_each_delivery()
-    ensures later { (window s : ℕ) (base : Catalogue) (entries : List Entry) (e : Entry) → suc (length entries) ≤ s
+    ensures later { (window s : ℕ) (base : Beginning) (entries : List Entry) (e : Entry) → suc (length entries) ≤ s
         → rows_kept window base (entries ++ e ∷ []) s
         ≡ if_commits (certified_entry window (certified_entries_of window base entries) e).verdict
         (after_writes (certified_entry window (certified_entries_of window base entries) e).writes
         (rows_kept window base entries s)) (rows_kept window base entries s) }
-    ensures before { (window s : ℕ) (base : Catalogue) (entries : List Entry) (e : Entry) → s ≤ length entries
+    ensures before { (window s : ℕ) (base : Beginning) (entries : List Entry) (e : Entry) → s ≤ length entries
         → rows_kept window base (entries ++ e ∷ []) s ≡ rows_kept window base entries s }
 {
     // Laws:
@@ -46,10 +46,10 @@ pub fn rows_of_each_delivery()
 
 /// A replica goes on standing for what it delivered, and where a delivery is refused it stands for the same.
 pub(crate) fn deliveries_are_kept()
-    ensures delivered { (base : Catalogue) (old new : Replica) (e : Entry) (c : Certification) (installed : List Table)
+    ensures delivered { (base : Beginning) (old new : Replica) (e : Entry) (c : Certification) (installed : List Table)
         (entries : List Entry)
         → IsDelivered old new e c installed → StandsFor base old entries → StandsFor base new (entries ++ e ∷ []) }
-    ensures refused { (base : Catalogue) (old new : Replica) (entries : List Entry)
+    ensures refused { (base : Beginning) (old new : Replica) (entries : List Entry)
         → IsRefusedDelivery old new → StandsFor base old entries → StandsFor base new entries }
 {
     // Laws:
@@ -60,8 +60,8 @@ pub(crate) fn deliveries_are_kept()
 /// An addition that is taken in is kept, in words of the entries, and installs nothing.
 pub(crate) fn additions_are_taken_in()
     ensures kept { (window : ℕ) (old new : Memory) (before after : List ListedProcedure) (l : ListedProcedure)
-        → ((past : List CertifiedItem) → certifier.IsMemoryOf old past
-        → certifier.IsMemoryOf new (past ++ certified_addition (stored_procedures before) (stored l) ∷ []))
+        → ((done : List DoneRequest) (past : List CertifiedItem) → certifier.IsMemoryOf old done past
+        → certifier.IsMemoryOf new done (past ++ certified_addition (stored_procedures before) (stored l) ∷ []))
         → after ≡ if_commits (verdict_on_addition (stored_procedures before) (stored l)) (before ++ l ∷ []) before
         → (past : CertifiedEntries) → KeepsCertified old before past
         → KeepsCertified new after (with_entry window past (AdditionEntry (stored l))) }
@@ -71,9 +71,9 @@ pub(crate) fn additions_are_taken_in()
     ensures installs { (position : ℕ) (tables : List Table) → IsInstalled position empty tables tables }
 {}
 
-/// No position has rows at first.
-pub(crate) fn no_rows_at_first()
-    ensures { (window s : ℕ) (base : Catalogue) → rows_kept window base [] s ≡ empty }
+/// Before the first delivery, each position has the rows of the beginning.
+pub(crate) fn rows_at_first()
+    ensures { (window s : ℕ) (base : Beginning) → rows_kept window base [] s ≡ base.rows }
 {
     // Laws:
     map_after_each_write_set();
@@ -92,7 +92,7 @@ pub fn replicas_follow_the_log()
         → stored_procedures r.procedures ≡ procedures_after w (items_of entries) r.position }
     ensures next { (w : Setting) (entries : List Entry) (e : Entry) → AreEntriesOf w (entries ++ e ∷ [])
         → verdict_of w (items_of (entries ++ e ∷ [])) (length entries + 1)
-        ≡ Some (certified_entry w.window (certified_entries_of w.window w.catalogue entries) e).verdict }
+        ≡ Some (certified_entry w.window (certified_entries_of w.window w.beginning entries) e).verdict }
 {
     // Laws:
     entries_suffice();

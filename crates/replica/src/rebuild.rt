@@ -6,6 +6,7 @@ ghost use Rattle.rows_mv.specs.Versions.{HaveTables};
 ghost use Rattle.log_model.specs.Log.{IsLog};
 ghost use Rattle.log_model.specs.Entries.{items_of};
 ghost use Rattle.log_entry.specs.Kind.{entry_of};
+ghost use Rattle.catalogue.specs.Catalogue.{beginning_of};
 ghost use Rattle.catalogue.specs.Stored.{AreForTables};
 ghost use Rattle.replica.specs.Replica.{IsForTables, IsNamed, StandsFor, entries_of, writes_in};
 
@@ -27,7 +28,7 @@ pub(crate) fn replica_of<A: Allocator + Copy, P: Allocator + Copy>(
     requires fit { All (λ e. AreWrites catalogue.now.tables (writes_in (entry_of e))) entries.now }
     requires named { All (λ e. IsNamed (entry_of e)) entries.now }
     requires for_tables { All (λ e. IsForTables catalogue.now.tables e) entries.now }
-    ensures stands { IfOk result (λ r. StandsFor catalogue.now.procedures r (entries_of entries.now)) }
+    ensures stands { IfOk result (λ r. StandsFor (beginning_of catalogue.now) r (entries_of entries.now)) }
     ensures window { IfOk result (λ r. r.window ≡ window) }
     ensures running { IfOk result (λ r. r.stopped ≡ false) }
     ensures tables { IfOk result (λ r. HaveTables catalogue.now.tables r.versions.tables) }

@@ -5,10 +5,11 @@ ghost use Rattle.std.specs.Prelude.{Some, true, false, is_err, All, IfOk, OnOk, 
 ghost use Rattle.schema.specs.Rows.{AreWrites};
 ghost use Rattle.std.specs.FinMap as map;
 ghost use Rattle.schema.specs.Schema.{Tables};
-ghost use Rattle.log_model.specs.Log.{Catalogue as Procedures, IsLog, IsPlaced, Setting, procedures_after, rows_after};
-ghost use Rattle.log_model.specs.Log.{verdict_of, first_position, repeats};
+ghost use Rattle.log_model.specs.Log.{Beginning, IsLog, IsPlaced, Setting, procedures_after, rows_after};
+ghost use Rattle.log_model.specs.Log.{verdict_of, done_at};
 ghost use Rattle.log_model.specs.Entries.{Entry as Delivered, item_of, items_of, certified_entry, certified_entries_of};
 ghost use Rattle.log_entry.specs.Kind.{entry_of};
+ghost use Rattle.catalogue.specs.Catalogue.{beginning_of};
 ghost use Rattle.catalogue.specs.Stored.{AreForTables, stored_procedures};
 ghost use Rattle.rows_mv.specs.Versions.{AnswersFrom, HaveTables, slots_of, width_of};
 ghost use Rattle.replica.specs.Replica.{AreEntriesOf, FitTables, IsForTables, IsNamed, StandsFor, StandsIn};
@@ -17,7 +18,7 @@ ghost use Rattle.replica.specs.Replica.{HasDelivered, HasStopped, HasSameTables}
 
 use crate::at::At;
 use crate::deliver::{Pruning, drop_unseen, take_entry, written_by};
-use crate::laws::{deliveries_are_kept, no_rows_at_first, tables_take_the_schemas_writes};
+use crate::laws::{deliveries_are_kept, rows_at_first, tables_take_the_schemas_writes};
 use crate::rebuild::replica_of;
 use crate::stopped::Stopped;
 use catalogue::{Catalogue, StoredProcedures};
@@ -72,7 +73,7 @@ impl<A: Allocator + Copy, P: Allocator + Copy> Replica<A, P> {
     /// A replica to which nothing was delivered, for the tables and with the procedures of a catalogue. A call finds
     /// its rows no more where more entries than the window were delivered since its snapshot.
     pub fn new(alloc: A, window: u32, catalogue: &Catalogue<P>) -> Result<Replica<A, P>, AllocError>
-        ensures stands { IfOk result (λ r. StandsFor catalogue.now.procedures r []) }
+        ensures stands { IfOk result (λ r. StandsFor (beginning_of catalogue.now) r []) }
         ensures window { IfOk result (λ r. r.window ≡ window) }
         ensures running { IfOk result (λ r. r.stopped ≡ false) }
         ensures tables { IfOk result (λ r. HaveTables catalogue.now.tables r.versions.tables) }
@@ -80,7 +81,7 @@ impl<A: Allocator + Copy, P: Allocator + Copy> Replica<A, P> {
     {
         // Laws:
         empty_versions_answer_from_no_rows();
-        no_rows_at_first();
+        rows_at_first();
         let certifier = Certifier::new(alloc, window)?;
         let versions = Versions::new(alloc, catalogue.schema())?;
         let procedures = catalogue.procedures().share(alloc)?;
@@ -140,10 +141,10 @@ impl<A: Allocator + Copy, P: Allocator + Copy> Replica<A, P> {
         &self.procedures
     }
 
-    /// The position of the committed call that carries a request, however long ago.
+    /// The position at which a request was done, however long ago. A request that was done before the log is at 0.
     pub fn repeated(&self, request: Option<RequestId>) -> Option<u32>
-        ensures { (base : Procedures) (entries : List Delivered) → StandsFor base self.now entries
-            → result ≡ first_position (repeats request) 1 (certified_entries_of self.now.window base entries).certified }
+        ensures { (base : Beginning) (entries : List Delivered) → StandsFor base self.now entries
+            → result ≡ done_at base.requests (certified_entries_of self.now.window base entries).certified request }
     {
         self.certifier.repeated(request)
     }
@@ -151,7 +152,7 @@ impl<A: Allocator + Copy, P: Allocator + Copy> Replica<A, P> {
     /// The rows at a position that was reached. The rows are gone where the position is out of the window.
     pub fn at<'a>(&'a self, position: u32) -> At<'a, A>
         requires { position ≤ self.now.position }
-        ensures answers { (base : Procedures) (entries : List Delivered) → StandsFor base self.now entries
+        ensures answers { (base : Beginning) (entries : List Delivered) → StandsFor base self.now entries
             → ⟦<At<'a, A> as Store>⟧.answers_from result (rows_kept self.now.window base entries position) }
         ensures gone { ⟦<At<'a, A> as Store>⟧.is_gone result ≡ nat_lt self.now.window (self.now.position - position) }
     {
@@ -164,7 +165,7 @@ impl<A: Allocator + Copy, P: Allocator + Copy> Replica<A, P> {
 
     /// The rows after the last position, in the order of tables and keys.
     pub fn rows<B: Allocator + Copy>(&self, alloc: B) -> Result<Vec<Row<B>, B>, AllocError>
-        ensures { IfOk result (λ list. (base : Procedures) (entries : List Delivered) → StandsFor base self.now entries
+        ensures { IfOk result (λ list. (base : Beginning) (entries : List Delivered) → StandsFor base self.now entries
             → list.items ≡ map.entries (rows_kept self.now.window base entries self.now.position)) }
     {
         self.versions.rows_at(alloc, self.position)
@@ -232,7 +233,7 @@ impl<A: Allocator + Copy, P: Allocator + Copy> Replica<A, P> {
         requires fit { All (λ e. AreWrites catalogue.now.tables (writes_in (entry_of e))) entries.now }
         requires named { All (λ e. IsNamed (entry_of e)) entries.now }
         requires for_tables { All (λ e. IsForTables catalogue.now.tables e) entries.now }
-        ensures stands { OnOk result (StandsFor catalogue.now.procedures self.new (entries_of entries.now)) }
+        ensures stands { OnOk result (StandsFor (beginning_of catalogue.now) self.new (entries_of entries.now)) }
         ensures position { IfOk result (λ p. p ≡ length entries.now) }
         ensures running { OnOk result (self.new.stopped ≡ false) }
         ensures window { self.new.window ≡ self.old.window }
@@ -250,11 +251,11 @@ impl<A: Allocator + Copy, P: Allocator + Copy> Replica<A, P> {
     pub fn verdict_at(&self, position: u32) -> Certification
         requires from { 1 ≤ position }
         requires to { position ≤ self.now.position }
-        ensures kept { (base : Procedures) (entries : List Delivered) (e : Delivered) → StandsFor base self.now entries
+        ensures kept { (base : Beginning) (entries : List Delivered) (e : Delivered) → StandsFor base self.now entries
             → slice_get entries (position - 1) ≡ Some e
             → result ≡ certification_of self.now.window base entries (position - 1) e }
         ensures log_verdict { (w : Setting) (entries : List Delivered) → w.window ≡ self.now.window
-            → StandsFor w.catalogue self.now entries → AreEntriesOf w entries
+            → StandsFor w.beginning self.now entries → AreEntriesOf w entries
             → verdict_of w (items_of entries) position ≡ Some result.verdict }
     {
         // Laws:

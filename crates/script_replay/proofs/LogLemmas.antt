@@ -1,4 +1,5 @@
 -- The lines of a log, by what replicas keep.
+use Rattle.catalogue.specs.Catalogue.{beginning_of}
 use Rattle.std.proofs.Common.{◌≡◌, ℕ, suc, ◌+◌, ◌<◌, ◌≤◌, Bool, true, false, cond, ◌||◌, find, nat_lt, List, [], ◌∷◌, length, map, take, drop, slice_get, arith, Option, Some, None, refl, sym, ap, subst, ◌∙◌}
 use Rattle.std.proofs.lemmas.Bool.Decides.{nat_tests}
 use Rattle.std.specs.List.{list_any}
@@ -97,13 +98,13 @@ open_line s before e item are at there none =
 
 -- where one has
 pub delivered_line : (s : SystemWorld) (r : Replica) (before : ℕ) (e : Entry) (item : Item) (keeps : KeepsDelivered s r) → r.position ≤ length s.entries → before < r.position → slice_get s.entries before ≡ Some e → slice_get (items_of s.entries) before ≡ Some item
-    → is_delivered (world_of s) before ≡ true → VerdictsGrow → HasLogVerdict r (before + 1) (certification_of r.window s.catalogue.procedures (take r.position s.entries) before e).verdict → VerdictsSuffice
-    → line_text (line.Certified (logged_entry (before + 1) e) (certification_of r.window s.catalogue.procedures (take r.position s.entries) before e).compared (certification_of r.window s.catalogue.procedures (take r.position s.entries) before e).verdict)
+    → is_delivered (world_of s) before ≡ true → VerdictsGrow → HasLogVerdict r (before + 1) (certification_of r.window (beginning_of s.catalogue) (take r.position s.entries) before e).verdict → VerdictsSuffice
+    → line_text (line.Certified (logged_entry (before + 1) e) (certification_of r.window (beginning_of s.catalogue) (take r.position s.entries) before e).compared (certification_of r.window (beginning_of s.catalogue) (take r.position s.entries) before e).verdict)
     ≡ logged_text (setting_of s) (world_of s) before item
 delivered_line s r before e item keeps within delivered at there some grow follow suffice =
     let w = setting_of s in
     let log = items_of s.entries in
-    let certification = certification_of r.window s.catalogue.procedures (take r.position s.entries) before e in
+    let certification = certification_of r.window (beginning_of s.catalogue) (take r.position s.entries) before e in
     let shipped = is_entry w log e (carries w s.entries before e keeps.entries at) in
     let entry = logged_entry (before + 1) (entry_of w log (item_of e)) in
     subst (λ (i : Item). line_text (line.Certified (logged_entry (before + 1) e) certification.compared certification.verdict) ≡ logged_text w (world_of s) before i) (item_is s.entries before e item at there)

@@ -1,17 +1,20 @@
 -- What a world keeps, in words of its log.
-use Rattle.std.proofs.Common.{◌≡◌, ℕ, zero, suc, ◌+◌, ◌<◌, ◌≤◌, List, [], ◌∷◌, ◌++◌, codes, length, take, drop, slice_get, option_map, Option, Some, None, Result, Ok, Err, refl, sym, ap, subst, ◌∙◌, arith, append_assoc}
+use Rattle.catalogue.specs.Catalogue.{beginning_of}
+use Rattle.std.proofs.Common.{◌≡◌, ℕ, false, cond, nat_eq, zero, suc, ◌+◌, ◌<◌, ◌≤◌, List, [], ◌∷◌, ◌++◌, codes, length, take, drop, slice_get, option_map, Option, Some, None, Result, Ok, Err, refl, sym, ap, subst, ◌∙◌, arith, append_assoc}
 use Rattle.std.proofs.lemmas.List.{append-nil}
 use Rattle.schema.specs.declared.look.Look.{Look}
 use Rattle.schema.specs.Rows.{Writes}
+use Rattle.std.proofs.lemmas.Bool.Decides.{nat_tests}
 use Rattle.log_model.specs.declared.verdict.Verdict.{Verdict}
-use Rattle.log_model.specs.Log.{StoredProcedure, Setting, Catalogue, Item, Log, CertifiedItem, IsLog, run_in, verdict_of, history}
+use Rattle.log_model.specs.declared.verdict.Verdict.TheVariants.{Repeated}
+use Rattle.log_model.specs.Log.{Beginning, StoredProcedure, Setting, Catalogue, Item, Log, CertifiedItem, IsLog, run_in, verdict_of, history}
 use Rattle.certify.specs.Comparisons.{comparisons_after}
 use Rattle.log_model.specs.Entries.{ExecutedCall, Entry, CallEntry, AdditionEntry, item_of, items_of, IsCarried, CarryRuns, CertifiedEntries, certified_entry, certified_entries_of}
 use Rattle.dsm_model.specs.World.{numbered}
-use Rattle.dsm_model.specs.Sound.{reply_of}
+use Rattle.dsm_model.specs.Sound.{reply_of, told_by}
 use Rattle.certify.specs.declared.certification.Certification.{Certification}
 use Rattle.replica.specs.Replica.{Replica, AreEntriesOf, StandsFor, certification_of}
-use Rattle.replica.proofs.KeepsLemmas.{certified_more, certified_count}
+use Rattle.replica.proofs.KeepsLemmas.{certified_more, certified_count, done_stays}
 use Rattle.dsm_world.specs.System.{SystemWorld, setting_of, world_of, KeepsDelivered}
 use Rattle.dsm_world.proofs.Numbered.{numbered_map}
 use Rattle.dsm_world.proofs.RowLemmas.{log_is}
@@ -61,14 +64,20 @@ no_reply_there w entries n p at = sym (ap (reply_of w (items_of entries)) (item_
 pub no_reply : (w : Setting) (entries : List Entry) (n : ℕ) → numbered entries n ≡ None → None ≡ reply_of w (items_of entries) (numbered (items_of entries) n)
 no_reply w entries n at = sym (ap (reply_of w (items_of entries)) (item_numbered entries n None at))
 
--- ---- what a replica keeps
+-- a world begins with no request that was done
+pub told_again : (s : SystemWorld) (log : Log) (position earlier : ℕ) → reply_of (setting_of s) log (numbered log earlier) ≡ told_by (setting_of s) log position (Some (Repeated earlier))
+told_again s log position zero = refl
+told_again s log position (suc n) = sym (ap (λ b. cond b None (reply_of (setting_of s) log (numbered log (suc n)))) (above n))
+  where
+    above : (n : ℕ) → nat_eq (suc n) 0 ≡ false
+    above n = grind (arith, nat_tests)
 
 -- ---- the verdict, and what it compared
 
-abbrev certified_of : ℕ → Catalogue → List Entry → List CertifiedItem
+abbrev certified_of : ℕ → Beginning → List Entry → List CertifiedItem
 certified_of window base entries = (certified_entries_of window base entries).certified
 
-certified_first : (window : ℕ) (base : Catalogue) (xs ys : List Entry) → (more : List CertifiedItem) × (certified_of window base (xs ++ ys) ≡ certified_of window base xs ++ more)
+certified_first : (window : ℕ) (base : Beginning) (xs ys : List Entry) → (more : List CertifiedItem) × (certified_of window base (xs ++ ys) ≡ certified_of window base xs ++ more)
 certified_first window base xs [] = ([], ap (certified_of window base) (append-nil xs) ∙ sym (append-nil (certified_of window base xs)))
 certified_first window base xs (y ∷ ys) =
     let rest = certified_first window base (xs ++ y ∷ []) ys in
@@ -79,7 +88,7 @@ certified_first window base xs (y ∷ ys) =
     )
 
 -- the first so many entries come to what they come to alone
-certified_taken : (window : ℕ) (base : Catalogue) (entries : List Entry) (n : ℕ) → n ≤ length entries → certified_of window base (take n entries) ≡ take n (certified_of window base entries)
+certified_taken : (window : ℕ) (base : Beginning) (entries : List Entry) (n : ℕ) → n ≤ length entries → certified_of window base (take n entries) ≡ take n (certified_of window base entries)
 certified_taken window base entries n le =
     let first = certified_first window base (take n entries) (drop n entries) in
     let count = certified_count window base (take n entries) ∙ take_count entries n le in
@@ -88,11 +97,11 @@ certified_taken window base entries n le =
 
 -- what the law of entries says of verdicts
 abbrev pub VerdictsSuffice : Type 0
-VerdictsSuffice = (w : Setting) (entries : List Entry) → IsLog (items_of entries) → CarryRuns w entries → (certified_entries_of w.window w.catalogue entries).certified ≡ (history w (items_of entries)).certified
+VerdictsSuffice = (w : Setting) (entries : List Entry) → IsLog (items_of entries) → CarryRuns w entries → (certified_entries_of w.window w.beginning entries).certified ≡ (history w (items_of entries)).certified
 
 -- what a replica says of the verdict at a position
 abbrev pub HasLogVerdict : Replica → ℕ → Verdict → Type 0
-HasLogVerdict r position v = (w : Setting) (entries : List Entry) → w.window ≡ r.window → StandsFor w.catalogue r entries → AreEntriesOf w entries → verdict_of w (items_of entries) position ≡ Some v
+HasLogVerdict r position v = (w : Setting) (entries : List Entry) → w.window ≡ r.window → StandsFor w.beginning r entries → AreEntriesOf w entries → verdict_of w (items_of entries) position ≡ Some v
 
 -- what the law of growing logs says
 abbrev pub VerdictsGrow : Type 0
@@ -112,7 +121,7 @@ taken_twice (x ∷ xs) (suc n) (suc k) le = ap (λ ys. x ∷ ys) (taken_twice xs
 
 module _ (s : SystemWorld) (r : Replica) (before : ℕ) (e : Entry) (keeps : KeepsDelivered s r) (within : r.position ≤ length s.entries) (delivered : before < r.position) (at : slice_get s.entries before ≡ Some e) where
   abbrev pub certification_there : Certification
-  certification_there = certification_of r.window s.catalogue.procedures (take r.position s.entries) before e
+  certification_there = certification_of r.window (beginning_of s.catalogue) (take r.position s.entries) before e
 
   pub stands_there : slice_get (take r.position s.entries) before ≡ Some e
   stands_there = get_taken s.entries r.position before delivered ∙ at
@@ -133,23 +142,25 @@ module _ (s : SystemWorld) (r : Replica) (before : ℕ) (e : Entry) (keeps : Kee
 
 -- what its replica certified before it is what the log says
 past_is : VerdictsSuffice → (s : SystemWorld) (r : Replica) (before : ℕ) (keeps : KeepsDelivered s r) → before ≤ r.position → before ≤ length s.entries
-    → certified_of r.window s.catalogue.procedures (take before (take r.position s.entries)) ≡ take before (history (setting_of s) (items_of s.entries)).certified
+    → certified_of r.window (beginning_of s.catalogue) (take before (take r.position s.entries)) ≡ take before (history (setting_of s) (items_of s.entries)).certified
 past_is suffice s r before keeps reached there =
     let w = setting_of s in
-    ap (λ (xs : List Entry). certified_of r.window s.catalogue.procedures xs) (taken_twice s.entries r.position before reached)
-    ∙ ap (λ (n : ℕ). certified_of n s.catalogue.procedures (take before s.entries)) keeps.window
-    ∙ certified_taken w.window s.catalogue.procedures s.entries before there
+    ap (λ (xs : List Entry). certified_of r.window (beginning_of s.catalogue) xs) (taken_twice s.entries r.position before reached)
+    ∙ ap (λ (n : ℕ). certified_of n (beginning_of s.catalogue) (take before s.entries)) keeps.window
+    ∙ certified_taken w.window (beginning_of s.catalogue) s.entries before there
     ∙ ap (take before) (suffice w s.entries keeps.entries.log keeps.entries.runs)
 
 pub compared_there : VerdictsSuffice → (s : SystemWorld) (r : Replica) (before : ℕ) (e : Entry) (keeps : KeepsDelivered s r) → r.position ≤ length s.entries → before < r.position → slice_get s.entries before ≡ Some e
-    → compared_count (setting_of s) (items_of s.entries) before (item_of e) ≡ (certification_of r.window s.catalogue.procedures (take r.position s.entries) before e).compared
+    → compared_count (setting_of s) (items_of s.entries) before (item_of e) ≡ (certification_of r.window (beginning_of s.catalogue) (take r.position s.entries) before e).compared
 compared_there suffice s r before (CallEntry e) keeps within delivered at =
     let w = setting_of s in
     let runs = carries w s.entries before (CallEntry e) keeps.entries at in
     let past = past_is suffice s r before keeps (omega arith) (omega arith) in
-    ap (λ (looks : List Look). length (comparisons_after w.window (take before (history w (items_of s.entries)).certified) e.call looks)) (sym runs.looks)
-    ∙ ap (λ (cs : List CertifiedItem). length (comparisons_after w.window cs e.call e.looks)) (sym past)
-    ∙ ap (λ (n : ℕ). length (comparisons_after n (certified_of r.window s.catalogue.procedures (take before (take r.position s.entries))) e.call e.looks)) (sym keeps.window)
+    ap (λ (looks : List Look). length (comparisons_after w.window w.beginning.requests (take before (history w (items_of s.entries)).certified) e.call looks)) (sym runs.looks)
+    ∙ ap (λ (cs : List CertifiedItem). length (comparisons_after w.window w.beginning.requests cs e.call e.looks)) (sym past)
+    ∙ ap (λ (n : ℕ). length (comparisons_after n w.beginning.requests (certified_of r.window (beginning_of s.catalogue) (take before (take r.position s.entries))) e.call e.looks)) (sym keeps.window)
+    ∙ ap (λ done. length (comparisons_after r.window done (certified_of r.window (beginning_of s.catalogue) (take before (take r.position s.entries))) e.call e.looks))
+    (sym (done_stays r.window (beginning_of s.catalogue) (take before (take r.position s.entries))))
 compared_there suffice s r before (AdditionEntry p) keeps within delivered at = refl
 
 -- ---- lines of the log, as far as a loop has come

@@ -10,7 +10,7 @@ use Rattle.schema.specs.Schema.{Tables, AreTables}
 use Rattle.schema.specs.declared.limits.TheConstants.{MAX_TABLE}
 use Rattle.schema.specs.Rows.{Key, Rows, IsFirst, IsVacant, AreRows}
 use Rattle.log_model.specs.Log.{Setting, Log, IsLog, rows_after}
-use Rattle.log_model.specs.Fit.{AreItems, HasSafeProcedures}
+use Rattle.log_model.specs.Fit.{AreItems, BeginsSafely}
 use Rattle.dsm_model.specs.World.{numbered}
 use Rattle.dsm_model.specs.Sound.{IsWorld}
 use Rattle.replica.specs.Replica.{Replica as ReplicaState}
@@ -128,8 +128,8 @@ module _ (s : SystemWorld) (r position : ℕ) (kept : ReplicaState) (stands : So
       ∙ ap (λ (n : ℕ). all_rows_text r n (entries (rows_after (setting_of s) (world_of s).log n))) (sym at)
 
   -- their keys
-  pub keys_there : ((w : Setting) (log : Log) (position : ℕ) → HasSafeProcedures w → IsLog log → AreItems w log → position ≤ length log → AreRows w.tables (rows_after w log position))
-      → HasSafeProcedures (setting_of s) → IsWorld (setting_of s) (world_of s) → AreTables s.catalogue.tables → HasRowKeys (rows_after (setting_of s) (world_of s).log position)
+  pub keys_there : ((w : Setting) (log : Log) (position : ℕ) → BeginsSafely w → IsLog log → AreItems w log → position ≤ length log → AreRows w.tables (rows_after w log position))
+      → BeginsSafely (setting_of s) → IsWorld (setting_of s) (world_of s) → AreTables s.catalogue.tables → HasRowKeys (rows_after (setting_of s) (world_of s).log position)
   keys_there fit safe is tables =
       let le = is.positions r (progress_of kept) progress_there in
       row_keys s.catalogue.tables (rows_after (setting_of s) (world_of s).log position) tables (fit (setting_of s) (world_of s).log position safe is.log is.items (omega arith))

@@ -35,7 +35,7 @@ IsToldUnder w replicas call None what seen = (seen ≡ None) × IsUnnamed replic
 
 -- what a call of a script is told, and what its caller has seen of the log then
 abbrev pub IsTold : Setting → ℕ → ScriptCall (List ℕ) → Answer → Option Entries → Type 0
-IsTold w replicas call what seen = IsToldUnder w replicas call (number_named w.catalogue call.name) what seen
+IsTold w replicas call what seen = IsToldUnder w replicas call (number_named w.beginning.procedures call.name) what seen
 
 -- ---- all of it of one log
 

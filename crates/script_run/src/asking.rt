@@ -49,7 +49,7 @@ impl<J: LogSetting + Ledgers + Send + Sync + 'static> Asking<J> {
         replicas: u32,
         script: Vec<ScriptCall<Bytes<Global>>>,
     ) -> Result<Asking<J>, AllocError>
-        requires { catalogue.now.procedures ≡ J.setting.catalogue }
+        requires { catalogue.now.procedures ≡ J.setting.beginning.procedures }
         ensures { IfOk result (λ asking. planned_calls asking.calls.items ≡ script.items) }
     {
         let mut calls = Vec::with_capacity(alloc, script.len())?;

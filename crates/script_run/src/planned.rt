@@ -16,5 +16,5 @@ pub(crate) struct PlannedCall<J: LogSetting> {
     pub(crate) call: ScriptCall<Bytes<Global>>,
     pub(crate) procedure: Option<u16>,
     pub(crate) of: PhantomData<J>,
-    ghost numbered: { procedure ≡ number_named J.setting.catalogue call.name },
+    ghost numbered: { procedure ≡ number_named J.setting.beginning.procedures call.name },
 }

@@ -14,7 +14,7 @@ use Rattle.log_model.specs.declared.refusal.CallRefusal.{CallRefusal}
 use Rattle.log_model.specs.declared.refusal.CallRefusal.TheVariants.{NoProcedure}
 use Rattle.log_model.specs.Admission.{admission}
 use Rattle.site_model.specs.declared.answer.CallAnswer.TheVariants.{Refused, Repeated, Cancelled, Read, Submitted}
-use Rattle.site_model.specs.Order.{reply_at}
+use Rattle.site_model.specs.Order.{reply_to}
 use Rattle.site_model.specs.Answer.{Asked, answer_for, answer_of_admission, answer_of_run, asked_call, call_answer_behind, takes_memory, unless_cancelled, unless_repeated}
 use Rattle.site_model.specs.Standing.{executed}
 use Rattle.world_calls.specs.declared.completion.Completion.{Completion}
@@ -39,11 +39,11 @@ module _ (w : Setting) (entries : List Entry) (asked : Asked) where
     pub refused_call : (refusal : CallRefusal) → admission asked.args asked.request (Some p) ≡ Err refusal → Refused refusal ≡ call_answer_behind w entries asked
     refused_call refusal e = sym (by_admission (Err refusal) e)
 
-    pub repeated_call : (position : ℕ) → admission asked.args asked.request (Some p) ≡ Ok p → first_repeated (history w (items_of entries)).certified (asked_call (items_of entries) p asked) ≡ Some position → Repeated position (reply_at entries position) ≡ call_answer_behind w entries asked
-    repeated_call position e first = sym (by_admission (Ok p) e ∙ ap (unless_repeated entries (answer_of_run w (items_of entries) (asked_call (items_of entries) p asked))) first)
+    pub repeated_call : (position : ℕ) → admission asked.args asked.request (Some p) ≡ Ok p → first_repeated w.beginning.requests (history w (items_of entries)).certified (asked_call (items_of entries) p asked) ≡ Some position → Repeated position (reply_to w entries asked.request position) ≡ call_answer_behind w entries asked
+    repeated_call position e first = sym (by_admission (Ok p) e ∙ ap (unless_repeated (reply_to w entries asked.request) (answer_of_run w (items_of entries) (asked_call (items_of entries) p asked))) first)
 
-    pub run_call : admission asked.args asked.request (Some p) ≡ Ok p → first_repeated (history w (items_of entries)).certified (asked_call (items_of entries) p asked) ≡ None → answer_of_run w (items_of entries) (asked_call (items_of entries) p asked) ≡ call_answer_behind w entries asked
-    run_call e first = sym (by_admission (Ok p) e ∙ ap (unless_repeated entries (answer_of_run w (items_of entries) (asked_call (items_of entries) p asked))) first)
+    pub run_call : admission asked.args asked.request (Some p) ≡ Ok p → first_repeated w.beginning.requests (history w (items_of entries)).certified (asked_call (items_of entries) p asked) ≡ None → answer_of_run w (items_of entries) (asked_call (items_of entries) p asked) ≡ call_answer_behind w entries asked
+    run_call e first = sym (by_admission (Ok p) e ∙ ap (unless_repeated (reply_to w entries asked.request) (answer_of_run w (items_of entries) (asked_call (items_of entries) p asked))) first)
 
 -- ---- the procedure of a name
 

@@ -24,7 +24,7 @@ abbrev pub OneMore : Type 0
 OneMore = (w : Setting) (entries : List Entry) (e : Entry) → AreFitEntries w entries → IsPlaced (length entries) (item_of e) → FitsLog w (items_of entries) (item_of e) → IsCarried w (items_of entries) e → AreFitEntries w (entries ++ e ∷ [])
 
 abbrev pub NextVerdict : Type 0
-NextVerdict = (w : Setting) (entries : List Entry) (e : Entry) → AreFitEntries w entries → AreFitEntries w (entries ++ e ∷ []) → verdict_of w (items_of (entries ++ e ∷ [])) (length entries + 1) ≡ Some (certified_entry w.window (certified_entries_of w.window w.catalogue entries) e).verdict
+NextVerdict = (w : Setting) (entries : List Entry) (e : Entry) → AreFitEntries w entries → AreFitEntries w (entries ++ e ∷ []) → verdict_of w (items_of (entries ++ e ∷ [])) (length entries + 1) ≡ Some (certified_entry w.window (certified_entries_of w.window w.beginning entries) e).verdict
 
 abbrev pub CallsLeave : Type 0
 CallsLeave = (w : Setting) (log : Log) (d : ℕ) (call : Call) → IsLog log → slice_get log d ≡ Some (CallItem call) → procedures_after w log (suc d) ≡ procedures_after w log d
@@ -54,9 +54,9 @@ module _ {A : Type 0} (s : SiteReplica) (entries : List Entry) (e : Entry) (entr
   pub verdict_is : OneMore → NextVerdict → (new : Replica) (v : Verdict) → Follows s entries e entry → HasDelivered s.replica new (entry_of entry) v → verdict_of (setting_of s).setting (items_of (entries ++ e ∷ [])) (length entries + 1) ≡ Some v
   verdict_is one next new v f delivered =
       let w = (setting_of s).setting in
-      let past = certified_entries_of w.window w.catalogue entries in
+      let past = certified_entries_of w.window w.beginning entries in
       next w entries e f.stands.of_log (one w entries e f.stands.of_log f.placed f.fits f.carried)
-      ∙ ap Some (ap (λ c. c.verdict) (certified_alike w.window past e (entry_of entry) f.alike) ∙ sym (delivered.verdict w.catalogue entries f.stands.stands.delivered))
+      ∙ ap Some (ap (λ c. c.verdict) (certified_alike w.window past e (entry_of entry) f.alike) ∙ sym (delivered.verdict w.beginning entries f.stands.stands.delivered))
 
 -- ---- procedures
 

@@ -9,7 +9,7 @@ use Rattle.bpf_vm.specs.declared.turn.Turn.{Turn}
 use Rattle.bpf_vm.specs.declared.turn.Turn.TheVariants.{Exit, Stale}
 use Rattle.log_model.specs.Log.{StoredProcedure, Setting, Call, Log, IsLog, by_number, procedures_after, rows_after}
 use Rattle.log_model.specs.Entries.{Entry, item_of, items_of, certified_entries_of, installed_from}
-use Rattle.log_model.specs.Fit.{HasSafeProcedures, AllFitLog}
+use Rattle.log_model.specs.Fit.{BeginsSafely, AllFitLog}
 use Rattle.log_model.specs.OpenCall.{OpenCall, makes_look}
 use Rattle.catalogue.specs.Catalogue.{accepted_of}
 use Rattle.replica.specs.Replica.{Replica, StandsFor, rows_kept}
@@ -21,20 +21,20 @@ use Rattle.site.specs.Run.{CanRun}
 -- what the laws of lower crates say
 abbrev pub RowsSuffice : Type 0
 RowsSuffice = (w : Setting) (entries : List Entry) (position : ℕ) → AreFitEntries w entries → position ≤ length entries
-    → map_after (installed_from 1 (certified_entries_of w.window w.catalogue entries).certified) position ≡ rows_after w (items_of entries) position
+    → map_after w.beginning.rows (installed_from 1 (certified_entries_of w.window w.beginning entries).certified) position ≡ rows_after w (items_of entries) position
 
 abbrev pub RowsFit : Type 0
-RowsFit = (w : Setting) (log : Log) (position : ℕ) → HasSafeProcedures w → IsLog log → AllFitLog w log → position ≤ length log → AreRows w.tables (rows_after w log position)
+RowsFit = (w : Setting) (log : Log) (position : ℕ) → BeginsSafely w → IsLog log → AllFitLog w log → position ≤ length log → AreRows w.tables (rows_after w log position)
 
 items_count : (xs : List Entry) → length (items_of xs) ≡ length xs
 items_count xs = length-map xs item_of
 
 -- the rows that the replica keeps of the snapshot are the log's
-pub rows_held : RowsSuffice → (w : Setting) (entries : List Entry) (r : Replica) (accepted : Procedure) (call : Call) → CanRun w entries r accepted call → call.snapshot ≤ r.position → rows_kept r.window w.catalogue entries call.snapshot ≡ rows_after w (items_of entries) call.snapshot
+pub rows_held : RowsSuffice → (w : Setting) (entries : List Entry) (r : Replica) (accepted : Procedure) (call : Call) → CanRun w entries r accepted call → call.snapshot ≤ r.position → rows_kept r.window w.beginning entries call.snapshot ≡ rows_after w (items_of entries) call.snapshot
 rows_held law w entries r accepted call can reached =
     let are = can.of_log in
     let position = can.stands.position in
-    ap (λ (window : ℕ). rows_kept window w.catalogue entries call.snapshot) (sym can.window)
+    ap (λ (window : ℕ). rows_kept window w.beginning entries call.snapshot) (sym can.window)
     ∙ law w entries call.snapshot are (omega arith)
 
 same_procedure : (p q : StoredProcedure) → Some p ≡ Some q → p ≡ q
@@ -49,7 +49,7 @@ module _ {A : Type 0} where
       let are = can.of_log in
       let position = can.stands.position in
       let count = items_count entries in
-      all w (items_of entries) can.procedure can.known can.program (law w (items_of entries) call.snapshot are.procedures are.log are.items (omega arith))
+      all w (items_of entries) can.procedure can.known can.program (law w (items_of entries) call.snapshot are.begins are.log are.items (omega arith))
 
   pub can_go_on : RowsSuffice → RowsFit → (w : Setting) (entries : List Entry) (r : Replica) (accepted : Procedure) (call : Call) (c : OpenCallState A) (answers : Rows → Type 0) → CanRun w entries r accepted call → call.snapshot ≤ r.position
       → call_of c ≡ call → FollowsAll accepted call c → ((base : _) (es : List Entry) → StandsFor base r es → answers (rows_kept r.window base es call.snapshot)) → CanGoOn w (items_of entries) accepted answers c
@@ -59,7 +59,7 @@ module _ {A : Type 0} where
       record {
         follows = f;
         program = can.program ∙ ap (accepted_of w.tables) (same_procedure can.procedure f.is_call.procedure (sym can.known ∙ sym here ∙ f.is_call.known));
-        answers = subst answers (rows_held suffice w entries r accepted call can reached ∙ ap (λ (x : Call). rows_after w (items_of entries) x.snapshot) (sym same)) (kept w.catalogue entries can.stands);
+        answers = subst answers (rows_held suffice w entries r accepted call can reached ∙ ap (λ (x : Call). rows_after w (items_of entries) x.snapshot) (sym same)) (kept w.beginning entries can.stands);
       }
 
 never_both : (a b : Bool) → b ≡ false → (a && b) ≡ true → ⊥

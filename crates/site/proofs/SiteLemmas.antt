@@ -11,10 +11,10 @@ use Rattle.log_model.specs.InstalledWrites.{map_after}
 use Rattle.bpf_code.specs.Program.{IsProgram}
 use Rattle.bpf_semantics.specs.Run.{Run}
 use Rattle.bpf_verify.specs.Flow.{Procedure, IsAccepted}
-use Rattle.catalogue.specs.Catalogue.{accepted_of}
+use Rattle.catalogue.specs.Catalogue.{beginning_of, accepted_of}
 use Rattle.catalogue.specs.Stored.{ListedProcedure, AreForTables, listed_by_number, stored, stored_procedures}
-use Rattle.log_model.specs.Log.{StoredProcedure, Catalogue, CertifiedItem, Setting, Call, Log, IsLog, by_number, first_position, history, procedure_of, procedures_after, repeats, rows_after, run_in}
-use Rattle.log_model.specs.Fit.{HasSafeProcedures, IsSafe}
+use Rattle.log_model.specs.Log.{Beginning, StoredProcedure, Catalogue, CertifiedItem, Setting, Call, Log, IsLog, by_number, done_at, history, procedure_of, procedures_after, rows_after, run_in}
+use Rattle.log_model.specs.Fit.{BeginsSafely, IsSafe}
 use Rattle.site_model.specs.Fit.{AreFitEntries}
 use Rattle.log_model.specs.Name.{is_name}
 use Rattle.log_entry.specs.declared.entry.Entry.TheVariants.{Addition}
@@ -32,10 +32,10 @@ use Rattle.site.specs.Replica.{SiteReplica, setting_of, since_of, KnowsSince, St
 
 -- what the laws of lower crates say
 abbrev pub VerdictsSuffice : Type 0
-VerdictsSuffice = (w : Setting) (entries : List Entry) → IsLog (items_of entries) → CarryRuns w entries → (certified_entries_of w.window w.catalogue entries).certified ≡ (history w (items_of entries)).certified
+VerdictsSuffice = (w : Setting) (entries : List Entry) → IsLog (items_of entries) → CarryRuns w entries → (certified_entries_of w.window w.beginning entries).certified ≡ (history w (items_of entries)).certified
 
 abbrev pub ProceduresSuffice : Type 0
-ProceduresSuffice = (w : Setting) (entries : List Entry) → IsLog (items_of entries) → CarryRuns w entries → (certified_entries_of w.window w.catalogue entries).procedures ≡ procedures_after w (items_of entries) (length entries)
+ProceduresSuffice = (w : Setting) (entries : List Entry) → IsLog (items_of entries) → CarryRuns w entries → (certified_entries_of w.window w.beginning entries).procedures ≡ procedures_after w (items_of entries) (length entries)
 
 -- ---- repeated and stale calls
 
@@ -46,12 +46,12 @@ behind : (a b : ℕ) → not (nat_le a b) ≡ nat_lt b a
 behind a b = elim (nat_lt b a) as (λ t. nat_lt b a ≡ t → not (nat_le a b) ≡ t) [ true ↦ λ e. grind (arith, nat_tests) | false ↦ λ e. grind (arith, nat_tests) ] refl
 
 pub decided : (s : SiteReplica) (entries : List Entry) (call : Call) (repeated : Option ℕ) (late : Bool) → VerdictsSuffice → StandsForLog s entries
-    → repeated ≡ first_position (repeats call.request) 1 (certified_entries_of s.replica.window s.catalogue.procedures entries).certified
+    → repeated ≡ done_at (beginning_of s.catalogue).requests (certified_entries_of s.replica.window (beginning_of s.catalogue) entries).certified call.request
     → late ≡ nat_lt s.replica.window (s.replica.position - call.snapshot)
     → (is_some repeated || late) ≡ is_decided (setting_of s).setting (items_of entries) call
 decided s entries call repeated late law stands first is =
     let w = (setting_of s).setting in
-    let same = first ∙ ap (λ (past : List CertifiedItem). first_position (repeats call.request) 1 past) (law w entries stands.of_log.log stands.of_log.runs) in
+    let same = first ∙ ap (λ (past : List CertifiedItem). done_at w.beginning.requests past call.request) (law w entries stands.of_log.log stands.of_log.runs) in
     let long = ap (λ n. nat_lt w.window (n - call.snapshot)) (sym (log_long s entries stands)) in
     (λ i. is_some (same i) || (is ∙ long ∙ sym (behind (length (items_of entries) - call.snapshot) w.window)) i)
 
@@ -210,27 +210,27 @@ first_since w = record {
   before = λ number position lt. absurd (omega arith);
 }
 
-pub stands_at_first : (s : SiteReplica) → s.replies ≡ [] → s.additions ≡ [] → s.replica.stopped ≡ false → StandsIn (setting_of s).setting s.replica [] → HasSafeProcedures (setting_of s).setting → StandsForLog s []
+pub stands_at_first : (s : SiteReplica) → s.replies ≡ [] → s.additions ≡ [] → s.replica.stopped ≡ false → StandsIn (setting_of s).setting s.replica [] → BeginsSafely (setting_of s).setting → StandsForLog s []
 stands_at_first s replies additions running stands safe = record {
   running = running;
   stands = stands;
-  of_log = record { procedures = safe; log = tt; items = tt; runs = tt };
+  of_log = record { begins = safe; log = tt; items = tt; runs = tt };
   replies = replies;
   since = subst (λ (xs : List (ℕ × ℕ)). KnowsSince (setting_of s).setting [] xs) (sym additions) (first_since (setting_of s).setting);
 }
 
 abbrev pub RowsSuffice : Type 0
 RowsSuffice = (w : Setting) (entries : List Entry) (position : ℕ) → AreFitEntries w entries → position ≤ length entries
-    → map_after (installed_from 1 (certified_entries_of w.window w.catalogue entries).certified) position ≡ rows_after w (items_of entries) position
+    → map_after w.beginning.rows (installed_from 1 (certified_entries_of w.window w.beginning entries).certified) position ≡ rows_after w (items_of entries) position
 
 -- what a replica lists is the log's rows
 pub rows_listed : {R E : Type 0} (s : SiteReplica) (items : R → List (Key × List ℕ)) (r : Result R E) → RowsSuffice
-    → IfOk r (λ list. (base : Catalogue) (entries : List Entry) → StandsFor base s.replica entries → items list ≡ map_entries (rows_kept s.replica.window base entries s.replica.position))
+    → IfOk r (λ list. (base : Beginning) (entries : List Entry) → StandsFor base s.replica entries → items list ≡ map_entries (rows_kept s.replica.window base entries s.replica.position))
     → IfOk r (λ list. (entries : List Entry) → StandsForLog s entries → items list ≡ map_entries (rows_after (setting_of s).setting (items_of entries) (length entries)))
 rows_listed s items (Err e) law h = tt
 rows_listed s items (Ok list) law h = λ entries stands.
     let w = (setting_of s).setting in
     let are = stands.of_log in
-    h s.catalogue.procedures entries stands.stands.delivered
-    ∙ ap (λ (n : ℕ). map_entries (rows_kept w.window w.catalogue entries n)) stands.stands.delivered.position
+    h (beginning_of s.catalogue) entries stands.stands.delivered
+    ∙ ap (λ (n : ℕ). map_entries (rows_kept w.window w.beginning entries n)) stands.stands.delivered.position
     ∙ ap map_entries (law w entries (length entries) are (omega arith))

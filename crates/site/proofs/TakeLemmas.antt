@@ -1,5 +1,5 @@
 -- What stands at the next position follows the entries for which a site stands.
-use Rattle.std.proofs.Common.{◌≡◌, ℕ, ◌+◌, ◌<◌, List, [], ◌∷◌, ◌++◌, length, All, Some, None, refl, sym, ap, subst, ◌∙◌, Option}
+use Rattle.std.proofs.Common.{◌≡◌, ℕ, zero, suc, ◌+◌, ◌<◌, List, [], ◌∷◌, ◌++◌, length, All, Some, None, refl, sym, ap, subst, ◌∙◌, Option}
 use Rattle.std.specs.FinMap.{empty, get-empty}
 use Rattle.std.specs.Prelude.{Result, Ok, Err, IfOk, OnOk}
 use Rattle.schema.specs.Schema.{Tables}
@@ -10,12 +10,13 @@ use Rattle.log_model.specs.Fit.{IsSafe, FitsLog}
 use Rattle.log_model.specs.Entries.{Entry, ExecutedCall, CallEntry, AdditionEntry, item_of, items_of, IsCarried}
 use Rattle.log_entry.specs.declared.entry.Entry.{Entry as LogEntry}
 use Rattle.log_entry.specs.declared.entry.Entry.TheVariants.{Call, Addition}
+use Rattle.log_entry.specs.Head.{head_of}
 use Rattle.log_entry.specs.Kind.{entry_of}
 use Rattle.site_model.specs.declared.cause.NothingCause.{NothingCause}
 use Rattle.site_model.specs.Standing.{SiteSetting, Standing, StandsAs, IsDecided, IsNothing, standing}
 use Rattle.site_model.specs.declared.outcome.EntryOutcome.{EntryOutcome}
 use Rattle.site_model.specs.declared.outcome.EntryOutcome.TheVariants as outcome
-use Rattle.site_model.specs.Order.{committed_outcome, next_entry, entry_standing, outcome_behind, outcome_by, outcome_of, Order, order_entries, with_bytes}
+use Rattle.site_model.specs.Order.{committed_outcome, next_entry, entry_standing, outcome_behind, outcome_by, outcome_of, Order, order_entries, replies_to, reply_at, reply_to, request_in, with_bytes}
 use Rattle.site.specs.Replica.{SiteReplica, StandsForLog, StandsForOrder, setting_of}
 use Rattle.site.specs.declared.standing.Standing.TheVariants as Code
 use Rattle.site.specs.Standing.{CanBeTaken, IsStanding}
@@ -101,13 +102,26 @@ stands_nothing A (IsNothing c) cause is = ap IsNothing is
 stands_nothing A (IsDecided call) cause is = absurd is
 stands_nothing A (StandsAs e) cause is = absurd is
 
-outcome_at : (s : SiteSetting) (entries : List Entry) (bytes : List ℕ) (st : Standing) → standing s (items_of entries) bytes ≡ st → outcome_behind s entries bytes ≡ outcome_of (with_bytes s entries bytes) st (verdict_of s.setting (items_of (with_bytes s entries bytes)) (length entries + 1))
-outcome_at s entries bytes st is = ap (λ (x : Standing). outcome_of (with_bytes s entries bytes) x (verdict_of s.setting (items_of (with_bytes s entries bytes)) (length entries + 1))) is
+-- a site's order begins with no request that was done
+pub same_replies : (s : SiteReplica) (entries : List Entry) (request : Option RequestId) → reply_at entries ≡ reply_to (setting_of s).setting entries request
+same_replies s entries request = λ i position. at position i
+  where
+    at : (position : ℕ) → reply_at entries position ≡ reply_to (setting_of s).setting entries request position
+    at zero = refl
+    at (suc before) = refl
+
+outcome_at : (r : SiteReplica) (entries : List Entry) (bytes : List ℕ) (st : Standing) → standing (setting_of r) (items_of entries) bytes ≡ st
+    → outcome_behind (setting_of r) entries bytes ≡ outcome_of (reply_at (with_bytes (setting_of r) entries bytes)) st (verdict_of (setting_of r).setting (items_of (with_bytes (setting_of r) entries bytes)) (length entries + 1))
+outcome_at r entries bytes st is =
+    let all = with_bytes (setting_of r) entries bytes in
+    let verdict = verdict_of (setting_of r).setting (items_of all) (length entries + 1) in
+    ap (λ (x : Standing). outcome_of (replies_to (setting_of r) all bytes) x verdict) is
+    ∙ ap (λ replies. outcome_of replies st verdict) (sym (same_replies r all (request_in (head_of bytes))))
 
 -- what taking an entry in says of its outcome
 abbrev pub TakesFor : {A : Type 0} → SiteReplica → LogEntry A → EntryOutcome → EntryOutcome → Type 0
 TakesFor r entry committed o = (entries : List Entry) (e : Entry) → Follows r entries e entry
-    → o ≡ outcome_by (entries ++ e ∷ []) committed (verdict_of (setting_of r).setting (items_of (entries ++ e ∷ [])) (length entries + 1))
+    → o ≡ outcome_by (reply_at (entries ++ e ∷ [])) committed (verdict_of (setting_of r).setting (items_of (entries ++ e ∷ [])) (length entries + 1))
 
 module _ {A : Type 0} (placed : ArePlaced) (carried : AreCarried) (fit : FitLogs) (r : SiteReplica) (entries : List Entry) (bytes : List ℕ) (are : All (λ b. b < 256) bytes) (stands : StandsForLog r entries) (entry : LogEntry A) where
   pub true_follows : IsStanding (standing (setting_of r) (items_of entries) bytes) (Code.StandsAs entry) → CanBeTaken r.catalogue.tables entry → Follows r entries (next_entry (setting_of r) entries bytes) entry
@@ -119,8 +133,8 @@ module _ {A : Type 0} (placed : ArePlaced) (carried : AreCarried) (fit : FitLogs
   true_outcome committed o is taken by_entry takes =
       let (e, at, same) = stands_true (standing (setting_of r) (items_of entries) bytes) entry is in
       takes entries (next_entry (setting_of r) entries bytes) (true_follows is taken)
-      ∙ ap (λ (x : EntryOutcome). outcome_by (with_bytes (setting_of r) entries bytes) x (verdict_of (setting_of r).setting (items_of (with_bytes (setting_of r) entries bytes)) (length entries + 1))) (by_entry ∙ ap committed_outcome (sym same))
-      ∙ sym (outcome_at (setting_of r) entries bytes (StandsAs e) at)
+      ∙ ap (λ (x : EntryOutcome). outcome_by (reply_at (with_bytes (setting_of r) entries bytes)) x (verdict_of (setting_of r).setting (items_of (with_bytes (setting_of r) entries bytes)) (length entries + 1))) (by_entry ∙ ap committed_outcome (sym same))
+      ∙ sym (outcome_at r entries bytes (StandsAs e) at)
 
   pub decided_follows : (snapshot : ℕ) (request : Option RequestId) → IsStanding {A = A} (standing (setting_of r) (items_of entries) bytes) (Code.Decided snapshot request) → entry_of entry ≡ CallEntry (none_executed snapshot request) → Follows r entries (next_entry (setting_of r) entries bytes) entry
   decided_follows snapshot request is entry_is =
@@ -130,7 +144,7 @@ module _ {A : Type 0} (placed : ArePlaced) (carried : AreCarried) (fit : FitLogs
   pub decided_outcome : (snapshot : ℕ) (request : Option RequestId) (o : EntryOutcome) → IsStanding {A = A} (standing (setting_of r) (items_of entries) bytes) (Code.Decided snapshot request) → entry_of entry ≡ CallEntry (none_executed snapshot request) → TakesFor r entry outcome.Stale o → o ≡ outcome_behind (setting_of r) entries bytes
   decided_outcome snapshot request o is entry_is takes =
       let (call, at, same, carries) = stands_decided A (standing (setting_of r) (items_of entries) bytes) snapshot request is in
-      takes entries (next_entry (setting_of r) entries bytes) (decided_follows snapshot request is entry_is) ∙ sym (outcome_at (setting_of r) entries bytes (IsDecided call) at)
+      takes entries (next_entry (setting_of r) entries bytes) (decided_follows snapshot request is entry_is) ∙ sym (outcome_at r entries bytes (IsDecided call) at)
 
   pub nothing_follows : (cause : NothingCause) (position : ℕ) → IsStanding {A = A} (standing (setting_of r) (items_of entries) bytes) (Code.Nothing cause) → position ≡ r.replica.position → entry_of entry ≡ CallEntry (none_executed position None) → Follows r entries (next_entry (setting_of r) entries bytes) entry
   nothing_follows cause position is here entry_is =

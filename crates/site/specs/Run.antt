@@ -14,7 +14,7 @@ named_call c =
 
 -- the replica stands for these entries, which are a log's, and the procedure of the call's snapshot has this program
 pub record CanRun (w : Setting) (entries : List Entry) (r : Replica) (accepted : Procedure) (call : Call) : Type 0 where
-  pub stands : StandsFor w.catalogue r entries
+  pub stands : StandsFor w.beginning r entries
   pub window : w.window ≡ r.window
   pub of_log : AreFitEntries w entries
   pub procedure : StoredProcedure

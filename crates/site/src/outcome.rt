@@ -3,7 +3,7 @@
 ghost use Rattle.std.specs.Prelude.{◌≡◌, List, map, Some};
 ghost use Rattle.log_model.specs.Entries.{Entry as ModelEntry};
 ghost use Rattle.log_entry.specs.Kind.{entry_of};
-ghost use Rattle.site_model.specs.Order.{committed_outcome, outcome_by};
+ghost use Rattle.site_model.specs.Order.{committed_outcome, outcome_by, reply_at};
 ghost use Rattle.site.specs.Replica.{reply_of};
 
 use crate::replies::reply_at;
@@ -16,7 +16,7 @@ use std::alloc::Allocator;
 /// entry commits.
 pub(crate) fn outcome_by(replies: &[u64], committed: EntryOutcome, verdict: Verdict) -> EntryOutcome
     ensures { (entries : List ModelEntry) → replies.now ≡ map reply_of entries
-        → result ≡ outcome_by entries committed (Some verdict) }
+        → result ≡ outcome_by (reply_at entries) committed (Some verdict) }
 {
     match verdict {
         Verdict::Commit => committed,

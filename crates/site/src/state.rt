@@ -2,7 +2,7 @@
 
 ghost use Rattle.std.specs.Prelude.{◌≡◌, List, [], length, IfOk};
 ghost use Rattle.std.specs.FinMap as map;
-ghost use Rattle.log_model.specs.Log.{first_position, history, repeats, rows_after};
+ghost use Rattle.log_model.specs.Log.{done_at, history, rows_after};
 ghost use Rattle.log_model.specs.Entries.{Entry as ModelEntry, items_of};
 ghost use Rattle.site.specs.Replica.{StandsForLog, setting_of};
 ghost use Rattle.catalogue.specs.Catalogue.{system_setting};
@@ -112,10 +112,11 @@ impl<A: Allocator + Copy> SiteReplica<A> {
         self.alloc
     }
 
-    /// The position of the committed call that carries a request.
+    /// The position at which a request was done. A request that was done before the order is at 0.
     pub fn repeated(&self, request: Option<RequestId>) -> Option<u32>
         ensures { (entries : List ModelEntry) → StandsForLog self.now entries → result
-            ≡ first_position (repeats request) 1 (history (setting_of self.now).setting (items_of entries)).certified }
+            ≡ done_at (setting_of self.now).setting.beginning.requests
+            (history (setting_of self.now).setting (items_of entries)).certified request }
     {
         // Laws:
         entries_suffice();

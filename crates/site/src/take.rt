@@ -5,7 +5,7 @@ ghost use Rattle.std.specs.FinMap.{empty};
 ghost use Rattle.log_model.specs.Log.{verdict_of};
 ghost use Rattle.log_model.specs.Entries.{CallEntry, Entry as ModelEntry, items_of};
 ghost use Rattle.log_entry.specs.Kind.{entry_of};
-ghost use Rattle.site_model.specs.Order.{outcome_behind, outcome_by, with_bytes};
+ghost use Rattle.site_model.specs.Order.{outcome_behind, outcome_by, with_bytes, reply_at};
 ghost use Rattle.site.specs.Replica.{StandsForLog, setting_of};
 ghost use Rattle.site.specs.Taking.{Follows};
 
@@ -57,7 +57,7 @@ fn take_entry<A: Allocator + Copy>(
     requires room { replica.old.replica.position + 1 < 2 ^ 32 }
     requires follows { (entries : List ModelEntry) × (e : ModelEntry) × Follows replica.old entries e entry.now }
     ensures outcome { IfOk result (λ outcome. (entries : List ModelEntry) (e : ModelEntry)
-        → Follows replica.old entries e entry.now → outcome ≡ outcome_by (entries ++ e ∷ []) committed
+        → Follows replica.old entries e entry.now → outcome ≡ outcome_by (reply_at (entries ++ e ∷ [])) committed
         (verdict_of (setting_of replica.old).setting (items_of (entries ++ e ∷ [])) (length entries + 1))) }
     ensures stands { OnOk result ((entries : List ModelEntry) (e : ModelEntry)
         → Follows replica.old entries e entry.now → StandsForLog replica.new (entries ++ e ∷ [])) }

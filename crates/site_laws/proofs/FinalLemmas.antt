@@ -15,7 +15,7 @@ use Rattle.log_model.specs.declared.refusal.CallRefusal.TheVariants.{ArgumentsLe
 use Rattle.log_model.specs.Admission.{admission}
 use Rattle.log_model.proofs.AdmissionLemmas.{has_a_zero, is_unfit, is_unknown}
 use Rattle.site_model.specs.Standing.{SiteSetting, executed, takes_arguments}
-use Rattle.site_model.specs.Order.{Order, order_entries, order_log}
+use Rattle.site_model.specs.Order.{reply_to, Order, order_entries, order_log}
 use Rattle.site_model.specs.Answer.{Asked, answer_for, answer_of_admission, answer_of_run, asked_call, call_answer, unless_cancelled, unless_repeated}
 use Rattle.site_laws.specs.Orders.{procedures_behind}
 use Rattle.site_laws.proofs.SettledLemmas.{settled_answer}
@@ -38,10 +38,10 @@ abbrev as_error : CallRefusal → Result StoredProcedure CallRefusal
 as_error r = Err r
 
 -- what comes of a run is no refusal
-never_refused : (entries : List Entry) (position : ℕ) (r : Run) (bytes : List ℕ) (code o : Option ℕ) (refusal : CallRefusal) → unless_repeated entries (unless_cancelled position r bytes code) o ≡ Refused refusal → ⊥
-never_refused entries position r bytes code (Some n) refusal e = absurd cc
-never_refused entries position r bytes (Some c) None refusal e = absurd cc
-never_refused entries position r bytes None None refusal e = by_count (len r.writes == 0) e
+never_refused : (replies : ℕ → ℕ) (position : ℕ) (r : Run) (bytes : List ℕ) (code o : Option ℕ) (refusal : CallRefusal) → unless_repeated replies (unless_cancelled position r bytes code) o ≡ Refused refusal → ⊥
+never_refused replies position r bytes code (Some n) refusal e = absurd cc
+never_refused replies position r bytes (Some c) None refusal e = absurd cc
+never_refused replies position r bytes None None refusal e = by_count (len r.writes == 0) e
   where
     by_count : (b : Bool) → cond b (Read position r.reply) (Submitted bytes) ≡ Refused refusal → ⊥
     by_count true e = absurd cc
@@ -49,13 +49,13 @@ never_refused entries position r bytes None None refusal e = by_count (len r.wri
 
 abbrev run_answer : Setting → List Entry → Asked → StoredProcedure → CallAnswer (List ℕ)
 run_answer w entries asked p =
-    unless_repeated entries (answer_of_run w (items_of entries) (asked_call (items_of entries) p asked)) (first_repeated (history w (items_of entries)).certified (asked_call (items_of entries) p asked))
+    unless_repeated (reply_to w entries asked.request) (answer_of_run w (items_of entries) (asked_call (items_of entries) p asked)) (first_repeated w.beginning.requests (history w (items_of entries)).certified (asked_call (items_of entries) p asked))
 
 run_never_refused : (w : Setting) (entries : List Entry) (asked : Asked) (p : StoredProcedure) (refusal : CallRefusal) → run_answer w entries asked p ≡ Refused refusal → ⊥
 run_never_refused w entries asked p refusal =
     let log = items_of entries in
     let call = asked_call log p asked in
-    never_refused entries call.snapshot (run_in w log call) (entry_bytes (CallEntry (executed w log call))) (run_in w log call).cancel_code (first_repeated (history w log).certified call) refusal
+    never_refused (reply_to w entries asked.request) call.snapshot (run_in w log call) (entry_bytes (CallEntry (executed w log call))) (run_in w log call).cancel_code (first_repeated w.beginning.requests (history w log).certified call) refusal
 
 -- what is refused wasn't admitted
 refused_by : (w : Setting) (entries : List Entry) (asked : Asked) (answer : Result StoredProcedure CallRefusal) (refusal : CallRefusal) → answer_of_admission w entries asked answer ≡ Refused refusal → answer ≡ Err refusal

@@ -4,7 +4,7 @@ use Rattle.std.proofs.lemmas.List.{length-map}
 use Rattle.schema.specs.declared.look.Look.{Look}
 use Rattle.bpf_semantics.specs.Run.{Run}
 use Rattle.log_model.specs.declared.verdict.Verdict.TheVariants as verdict
-use Rattle.log_model.specs.Log.{Call, CallItem, CertifiedItem, Log, IsLog, conflicts, first_position, first_repeated, history, run_in, unless_conflict, unless_repeated, verdict_after, verdict_of}
+use Rattle.log_model.specs.Log.{DoneRequest, Call, CallItem, CertifiedItem, Log, IsLog, conflicts, first_position, first_repeated, history, run_in, unless_conflict, unless_repeated, verdict_after, verdict_of}
 use Rattle.log_model.specs.Entries.{Entry, CallEntry, item_of, items_of}
 use Rattle.log_model.specs.Verdicts.{WroteWhatWasRead}
 use Rattle.log_model.proofs.CallLemmas.{certified_is, count_history}
@@ -19,13 +19,13 @@ use Rattle.site_laws.proofs.RefusedLemmas.{ConflictMeans, past_is}
 use Rattle.site_laws.proofs.SettledLemmas.{by_head, wrote_there}
 
 -- the verdict on a call that isn't repeated, and isn't late
-new_verdict : (window : ℕ) (past : List CertifiedItem) (call : Call) (looks : List Look) → first_repeated past call ≡ None → nat_le (length past - call.snapshot) window ≡ true
-    → verdict_after window past call looks ≡ unless_conflict (first_position (conflicts looks) (call.snapshot + 1) (drop call.snapshot past))
+new_verdict : (window : ℕ) (done : List DoneRequest) (past : List CertifiedItem) (call : Call) (looks : List Look) → first_repeated done past call ≡ None → nat_le (length past - call.snapshot) window ≡ true
+    → verdict_after window done past call looks ≡ unless_conflict (first_position (conflicts looks) (call.snapshot + 1) (drop call.snapshot past))
 unfolding verdict_after
-new_verdict window past call looks none within =
+new_verdict window done past call looks none within =
     λ i. unless_repeated (none i) (cond (within i) (unless_conflict (first_position (conflicts looks) (call.snapshot + 1) (drop call.snapshot past))) verdict.Stale)
 
-module _ (s : SiteSetting) (entries later : List Entry) (bytes : List ℕ) (c : Call) (own : IsOwn s entries later bytes c) (new : first_repeated (history s.setting (items_of (entries ++ later))).certified c ≡ None)
+module _ (s : SiteSetting) (entries later : List Entry) (bytes : List ℕ) (c : Call) (own : IsOwn s entries later bytes c) (new : first_repeated s.setting.beginning.requests (history s.setting (items_of (entries ++ later))).certified c ≡ None)
     (near : nat_le (length (items_of (entries ++ later)) - c.snapshot) s.setting.window ≡ true) where
   abbrev all : List Entry
   all = entries ++ later
@@ -78,8 +78,8 @@ module _ (s : SiteSetting) (entries later : List Entry) (bytes : List ℕ) (c : 
       known : verdict_of s.setting whole (suc (length all)) ≡ Some (unless_conflict (first_position (conflicts looks) (c.snapshot + 1) (drop c.snapshot past)))
       known =
           ap (option_map (λ (x : CertifiedItem). x.verdict)) (certified_is s.setting whole (length all) c is_log there)
-          ∙ ap (λ (cs : List CertifiedItem). Some (verdict_after s.setting.window cs c looks)) past_there
-          ∙ ap Some (new_verdict s.setting.window past c looks new near_past)
+          ∙ ap (λ (cs : List CertifiedItem). Some (verdict_after s.setting.window s.setting.beginning.requests cs c looks)) past_there
+          ∙ ap Some (new_verdict s.setting.window s.setting.beginning.requests past c looks new near_past)
 
       same_run : run_in s.setting whole c ≡ run_in s.setting (items_of entries) c
       same_run = ap (λ (l : Log). run_in s.setting l c) as_one_more ∙ run_grown s.setting here (CallItem c ∷ []) c early ∙ own.run

@@ -11,7 +11,7 @@ use Rattle.site_laws.proofs.NameLemmas.{HaveOwnNumbers, name_stays, number_stays
 
 -- what the law of one more byte string says
 abbrev pub First : Type 0
-First = (s : SiteSetting) → procedures_behind s [] ≡ s.setting.catalogue
+First = (s : SiteSetting) → procedures_behind s [] ≡ s.setting.beginning.procedures
 
 abbrev pub Told : Type 0
 Told = (s : SiteSetting) (order : Order) (bytes : List ℕ) (number : ℕ) → (next_outcome s order bytes ≡ outcome.Added number) ↔ ((p : StoredProcedure) × AddsProcedure s order bytes p × (p.number ≡ number))
@@ -61,7 +61,7 @@ module _ (s : SiteSetting) (told : Told) (added : Added) (others : Others) where
       (own_from (order ++ bytes ∷ []) more (by_next HaveOwnNumbers order bytes (λ p adds. one_more_has_its_own (procedures_behind s order) p adds.new_number own) own))
 
   pub own_behind : First → HasDistinctNumbers s.setting → (order : Order) → HaveOwnNumbers (procedures_behind s order)
-  own_behind first distinct order = own_from [] order (subst HaveOwnNumbers (sym (first s)) (own_numbers s.setting.catalogue distinct))
+  own_behind first distinct order = own_from [] order (subst HaveOwnNumbers (sym (first s)) (own_numbers s.setting.beginning.procedures distinct))
 
   pub name_kept : (order more : Order) (name : List ℕ) (p : StoredProcedure) → by_name (procedures_behind s order) name ≡ Some p → by_name (procedures_behind s (order ++ more)) name ≡ Some p
   name_kept order more name p e =

@@ -9,14 +9,14 @@ use Rattle.log_model.specs.declared.request.RequestId.{RequestId}
 use Rattle.log_model.specs.declared.verdict.Verdict.{Verdict}
 use Rattle.log_model.specs.declared.verdict.Verdict.TheVariants as verdict
 use Rattle.log_model.specs.Log.{StoredProcedure, Catalogue, Setting, Call, CallItem, AdditionItem, Log, IsLog, IsPlaced, by_number, if_commits, or_idle, procedures_after, rows_after, run_in, run_of_call, run_of_procedure, run_on, same_request, verdict_of}
-use Rattle.log_model.specs.Fit.{AllFitLog, HasSafeProcedures}
+use Rattle.log_model.specs.Fit.{AllFitLog, BeginsSafely}
 use Rattle.log_model.specs.Entries.{Entry, ExecutedCall, CallEntry, AdditionEntry, item_of, items_of, CarryRuns}
 use Rattle.log_model.proofs.GrowthLemmas.{is_log_snoc}
 use Rattle.dsm_model.specs.World.{numbered}
 use Rattle.site_model.specs.Fit.{AreFitEntries}
 use Rattle.site_model.specs.declared.outcome.EntryOutcome.TheVariants as outcome
 use Rattle.site_model.specs.Standing.{SiteSetting, Standing, StandsAs, IsDecided, IsNothing, standing}
-use Rattle.site_model.specs.Order.{Order, call_of_none, entry_of_none, entry_standing, next_entry, order_entries, order_log, outcome_behind, outcome_by, outcome_of, with_bytes}
+use Rattle.site_model.specs.Order.{replies_to, Order, call_of_none, entry_of_none, entry_standing, next_entry, order_entries, order_log, outcome_behind, outcome_by, outcome_of, with_bytes}
 use Rattle.site_model.proofs.StandingLemmas.{none_unused}
 
 -- ---- a beginning
@@ -73,7 +73,7 @@ abbrev pub RowsAddition : Type 0
 RowsAddition = (w : Setting) (log : Log) (d : ℕ) (p : StoredProcedure) → IsLog log → slice_get log d ≡ Some (AdditionItem p) → rows_after w log (suc d) ≡ rows_after w log d
 
 abbrev pub RunsAlike : Type 0
-RunsAlike = (w : Setting) (log : Log) (d : ℕ) (call : Call) → HasSafeProcedures w → IsLog log → AllFitLog w log → slice_get log d ≡ Some (CallItem call) → verdict_of w log (suc d) ≡ Some verdict.Commit → run_on w log call (rows_after w log d) ≡ same_on (rows_after w log d) (run_in w log call)
+RunsAlike = (w : Setting) (log : Log) (d : ℕ) (call : Call) → BeginsSafely w → IsLog log → AllFitLog w log → slice_get log d ≡ Some (CallItem call) → verdict_of w log (suc d) ≡ Some verdict.Commit → run_on w log call (rows_after w log d) ≡ same_on (rows_after w log d) (run_in w log call)
 
 abbrev pub RepliesCarried : Type 0
 RepliesCarried = (w : Setting) (entries : List Entry) (position : ℕ) (e : ExecutedCall) → CarryRuns w entries → numbered entries position ≡ Some (CallEntry e) → e.reply ≡ (run_in w (items_of entries) e.call).reply
@@ -93,15 +93,15 @@ some_verdict : (o : Option Verdict) → IsSome o → (v : Verdict) × (o ≡ Som
 some_verdict None h = absurd cc
 some_verdict (Some v) h = (v, refl)
 
-commits : (entries : List Entry) (told reply : ℕ) (v : Verdict) → outcome_by entries (outcome.Committed told) (Some v) ≡ outcome.Committed reply → (v ≡ verdict.Commit) × (told ≡ reply)
-commits entries told reply verdict.Commit e = (refl, one told reply e)
+commits : (replies : ℕ → ℕ) (told reply : ℕ) (v : Verdict) → outcome_by replies (outcome.Committed told) (Some v) ≡ outcome.Committed reply → (v ≡ verdict.Commit) × (told ≡ reply)
+commits replies told reply verdict.Commit e = (refl, one told reply e)
   where
     one : (a b : ℕ) → outcome.Committed a ≡ outcome.Committed b → a ≡ b
     one a b e = cc
-commits entries told reply (verdict.Conflict n) e = absurd cc
-commits entries told reply verdict.Stale e = absurd cc
-commits entries told reply (verdict.Repeated n) e = absurd cc
-commits entries told reply (verdict.Taken i) e = absurd cc
+commits replies told reply (verdict.Conflict n) e = absurd cc
+commits replies told reply verdict.Stale e = absurd cc
+commits replies told reply (verdict.Repeated n) e = absurd cc
+commits replies told reply (verdict.Taken i) e = absurd cc
 
 module _ (s : SiteSetting) (entries : List Entry) (bytes : List ℕ) where
   pub last_verdict : HaveVerdicts → (v : Verdict) × (verdict_of s.setting (items_of (with_bytes s entries bytes)) (suc (length entries)) ≡ Some v)
@@ -110,16 +110,16 @@ module _ (s : SiteSetting) (entries : List Entry) (bytes : List ℕ) where
       let one : length (with_bytes s entries bytes) ≡ length entries + 1 = length-append entries (next_entry s entries bytes ∷ []) in
       some_verdict (verdict_of s.setting (items_of (with_bytes s entries bytes)) (suc (length entries))) (law s.setting (items_of (with_bytes s entries bytes)) (length entries) (omega arith))
 
-  pub at_last : (v : Verdict) → verdict_of s.setting (items_of (with_bytes s entries bytes)) (suc (length entries)) ≡ Some v → (st : Standing) → standing s (items_of entries) bytes ≡ st → outcome_behind s entries bytes ≡ outcome_of (with_bytes s entries bytes) st (Some v)
+  pub at_last : (v : Verdict) → verdict_of s.setting (items_of (with_bytes s entries bytes)) (suc (length entries)) ≡ Some v → (st : Standing) → standing s (items_of entries) bytes ≡ st → outcome_behind s entries bytes ≡ outcome_of (replies_to s (with_bytes s entries bytes) bytes) st (Some v)
   at_last v e st is =
-      ap (λ (n : ℕ). outcome_of (with_bytes s entries bytes) (standing s (items_of entries) bytes) (verdict_of s.setting (items_of (with_bytes s entries bytes)) n)) (let n : length entries + 1 ≡ suc (length entries) = omega arith in n)
-      ∙ (λ i. outcome_of (with_bytes s entries bytes) (is i) (e i))
+      ap (λ (n : ℕ). outcome_of (replies_to s (with_bytes s entries bytes) bytes) (standing s (items_of entries) bytes) (verdict_of s.setting (items_of (with_bytes s entries bytes)) n)) (let n : length entries + 1 ≡ suc (length entries) = omega arith in n)
+      ∙ (λ i. outcome_of (replies_to s (with_bytes s entries bytes) bytes) (is i) (e i))
 
   -- a call that commits
   pub commits_there : HaveVerdicts → (e : ExecutedCall) (reply : ℕ) → standing s (items_of entries) bytes ≡ StandsAs (CallEntry e) → outcome_behind s entries bytes ≡ outcome.Committed reply → (verdict_of s.setting (items_of (with_bytes s entries bytes)) (suc (length entries)) ≡ Some verdict.Commit) × (e.reply ≡ reply)
   commits_there law e reply is told =
       let (v, at) = last_verdict law in
-      let (commit, same) = commits (with_bytes s entries bytes) e.reply reply v (sym (at_last v at (StandsAs (CallEntry e)) is) ∙ told) in
+      let (commit, same) = commits (replies_to s (with_bytes s entries bytes) bytes) e.reply reply v (sym (at_last v at (StandsAs (CallEntry e)) is) ∙ told) in
       (at ∙ ap Some commit, same)
 
   pub entry_is : (e : Entry) → standing s (items_of entries) bytes ≡ StandsAs e → next_entry s entries bytes ≡ e
@@ -145,7 +145,7 @@ module _ (s : SiteSetting) (entries : List Entry) (bytes : List ℕ) where
       let (commit, same) = commits_there verdicts e reply is told in
       sym same
       ∙ carried w (with_bytes s entries bytes) (suc (length entries)) e are.runs (there entries (next_entry s entries bytes) ∙ ap Some (entry_is (CallEntry e) is))
-      ∙ sym (ap (λ (r : Run). r.reply) (alike w log (length entries) e.call are.procedures are.log are.items (call_there e is) commit))
+      ∙ sym (ap (λ (r : Run). r.reply) (alike w log (length entries) e.call are.begins are.log are.items (call_there e is) commit))
       ∙ ap (λ (rows : Rows). (run_on w log e.call rows).reply) (rows_before grow)
 
   -- ---- one that doesn't commit
@@ -186,7 +186,7 @@ module _ (s : SiteSetting) (entries : List Entry) (bytes : List ℕ) where
       let (v, at) = last_verdict verdicts in
       next w whole (length entries) e.call v log (call_there e is) at
       ∙ left_by v (run_on w whole e.call (rows_after w whole (length entries))).effect (rows_after w whole (length entries))
-      (λ commit. absurd (never e.reply (at_last v at (StandsAs (CallEntry e)) is ∙ ap (λ (x : Verdict). outcome_by (with_bytes s entries bytes) (outcome.Committed e.reply) (Some x)) commit)))
+      (λ commit. absurd (never e.reply (at_last v at (StandsAs (CallEntry e)) is ∙ ap (λ (x : Verdict). outcome_by (replies_to s (with_bytes s entries bytes) bytes) (outcome.Committed e.reply) (Some x)) commit)))
       ∙ rows_before grow
   rows_others verdicts grow procedures next addition placed log never (StandsAs (AdditionEntry p)) is =
       addition s.setting (items_of (with_bytes s entries bytes)) (length entries) p log (item_there entries (next_entry s entries bytes) ∙ ap (λ (x : Entry). Some (item_of x)) (entry_is (AdditionEntry p) is)) ∙ rows_before grow

@@ -9,7 +9,7 @@ use Rattle.log_model.specs.declared.request.RequestId.{RequestId}
 use Rattle.log_model.specs.declared.verdict.Verdict.{Verdict}
 use Rattle.log_model.specs.declared.verdict.Verdict.TheVariants as verdict
 use Rattle.log_model.specs.declared.verdict.Identifier.TheVariants.{Name, Number}
-use Rattle.log_model.specs.Log.{StoredProcedure, Catalogue, CertifiedItem, Call, CallItem, Log, IsLog, by_name, by_number, first_position, history, is_commit, procedures_after, repeats, run_in, same_request, verdict_of, verdict_on_addition}
+use Rattle.log_model.specs.Log.{was_done, done_at, StoredProcedure, Catalogue, CertifiedItem, Call, CallItem, Log, IsLog, by_name, by_number, first_position, history, is_commit, procedures_after, repeats, run_in, same_request, verdict_of, verdict_on_addition}
 use Rattle.log_model.specs.Entries.{Entry, CallEntry, AdditionEntry, item_of, items_of}
 use Rattle.log_model.proofs.CallLemmas.{addition_is, certified_is, count_history}
 use Rattle.log_model.proofs.GrowthLemmas.{get_before, grown, run_grown}
@@ -17,7 +17,7 @@ use Rattle.site_model.specs.declared.cause.NothingCause.{NothingCause}
 use Rattle.site_model.specs.declared.outcome.EntryOutcome.{EntryOutcome}
 use Rattle.site_model.specs.declared.outcome.EntryOutcome.TheVariants as outcome
 use Rattle.site_model.specs.Standing.{SiteSetting, Standing, StandsAs, IsDecided, IsNothing, standing}
-use Rattle.site_model.specs.Order.{call_of_none, entry_standing, next_entry, outcome_behind, outcome_by, reply_in, with_bytes}
+use Rattle.site_model.specs.Order.{replies_to, call_of_none, entry_standing, next_entry, outcome_behind, outcome_by, reply_in, with_bytes}
 use Rattle.site_model.proofs.StandingLemmas.{runs_none}
 use Rattle.site_laws.specs.Requests.{with_reply}
 use Rattle.site_laws.proofs.LogLemmas.{HaveVerdicts, at_last, item_there, items_go_on, items_snoc, last_verdict}
@@ -104,21 +104,29 @@ module _ (s : SiteSetting) (entries : List Entry) (bytes : List ℕ) (why : Noth
       let same = last_carries (history s.setting whole).certified (history s.setting log).certified c _ (length entries) split count (certified_is s.setting whole (length entries) none is_log none_there) in
       (c, split, same)
 
-  pub request_stays : IsLog whole → (r : Option RequestId) → option_map (with_reply (with_bytes s entries bytes)) (first_position (repeats r) 1 (history s.setting whole).certified)
-      ≡ option_map (with_reply entries) (first_position (repeats r) 1 (history s.setting log).certified)
+  pub request_stays : IsLog whole → (r : Option RequestId) → option_map (with_reply s (with_bytes s entries bytes) r) (done_at s.setting.beginning.requests (history s.setting whole).certified r)
+      ≡ option_map (with_reply s entries r) (done_at s.setting.beginning.requests (history s.setting log).certified r)
   request_stays is_log r =
-      let (c, split, carries) = certified_there is_log in
-      ap (λ (cs : List CertifiedItem). option_map (with_reply (with_bytes s entries bytes)) (first_position (repeats r) 1 cs)) split
-      ∙ ap (option_map (with_reply (with_bytes s entries bytes))) (no_more (repeats r) 1 (history s.setting log).certified c (no_repeat r c carries))
-      ∙ by_position (first_position (repeats r) 1 (history s.setting log).certified) refl
+      elim (was_done s.setting.beginning.requests r) as (λ b. option_map (with_reply s (with_bytes s entries bytes) r) (cond b (Some 0) (first_position (repeats r) 1 (history s.setting whole).certified))
+      ≡ option_map (with_reply s entries r) (cond b (Some 0) (first_position (repeats r) 1 (history s.setting log).certified))) [
+        | true ↦ refl
+        | false ↦
+            let (c, split, carries) = certified_there is_log in
+            ap (λ (cs : List CertifiedItem). option_map (with_reply s (with_bytes s entries bytes) r) (first_position (repeats r) 1 cs)) split
+            ∙ ap (option_map (with_reply s (with_bytes s entries bytes) r)) (no_more (repeats r) 1 (history s.setting log).certified c (no_repeat r c carries))
+            ∙ by_position (first_position (repeats r) 1 (history s.setting log).certified) refl
+      ]
     where
       by_position : (o : Option ℕ) → first_position (repeats r) 1 (history s.setting log).certified ≡ o
-          → option_map (with_reply (with_bytes s entries bytes)) o ≡ option_map (with_reply entries) o
+          → option_map (with_reply s (with_bytes s entries bytes) r) o ≡ option_map (with_reply s entries r) o
       by_position None e = refl
-      by_position (Some k) e =
-          let found = within (repeats r) 1 (history s.setting log).certified k e in
-          let lt : k - 1 < length entries = omega (arith, found.0, found.1, count_history s.setting log, length-map entries item_of) in
-          ap (λ (x : Option Entry). Some (k, reply_in x)) (get_first entries (next_entry s entries bytes ∷ []) (k - 1) lt)
+      by_position (Some zero) e =
+          let found = within (repeats r) 1 (history s.setting log).certified zero e in
+          absurd (omega (arith, found.0, found.1))
+      by_position (Some (suc k)) e =
+          let found = within (repeats r) 1 (history s.setting log).certified (suc k) e in
+          let lt : k < length entries = omega (arith, found.0, found.1, count_history s.setting log, length-map entries item_of) in
+          ap (λ (x : Option Entry). Some (suc k, reply_in x)) (get_first entries (next_entry s entries bytes ∷ []) k lt)
 
   -- it writes nothing, however the log goes on
   pub writes_nothing : (more : Log) → (run_in s.setting (log ++ more) none).writes ≡ empty
@@ -126,12 +134,12 @@ module _ (s : SiteSetting) (entries : List Entry) (bytes : List ℕ) (why : Noth
 
 -- ---- what is in conflict
 
-conflict_by : (entries : List Entry) (c : EntryOutcome) (position : ℕ) (v : Verdict) → (c ≡ outcome.Conflict position → ⊥) → outcome_by entries c (Some v) ≡ outcome.Conflict position → v ≡ verdict.Conflict position
-conflict_by entries c position verdict.Commit isnt e = absurd (isnt e)
-conflict_by entries c position (verdict.Conflict n) isnt e = cc
-conflict_by entries c position verdict.Stale isnt e = absurd cc
-conflict_by entries c position (verdict.Repeated n) isnt e = absurd cc
-conflict_by entries c position (verdict.Taken i) isnt e = absurd cc
+conflict_by : (replies : ℕ → ℕ) (c : EntryOutcome) (position : ℕ) (v : Verdict) → (c ≡ outcome.Conflict position → ⊥) → outcome_by replies c (Some v) ≡ outcome.Conflict position → v ≡ verdict.Conflict position
+conflict_by replies c position verdict.Commit isnt e = absurd (isnt e)
+conflict_by replies c position (verdict.Conflict n) isnt e = cc
+conflict_by replies c position verdict.Stale isnt e = absurd cc
+conflict_by replies c position (verdict.Repeated n) isnt e = absurd cc
+conflict_by replies c position (verdict.Taken i) isnt e = absurd cc
 
 never_on_addition : (ps : Catalogue) (p : StoredProcedure) (position : ℕ) → verdict_on_addition ps p ≡ verdict.Conflict position → ⊥
 never_on_addition ps p position = by_tests (is_some (by_name ps p.name)) (is_some (by_number ps p.number))
@@ -157,16 +165,16 @@ module _ (s : SiteSetting) (entries : List Entry) (bytes : List ℕ) where
       by_standing : (v : Verdict) → verdict_of s.setting behind (suc (length entries)) ≡ Some v → (st : Standing) → standing s (items_of entries) bytes ≡ st
           → (call : Call) × (slice_get behind (length entries) ≡ Some (CallItem call)) × (verdict_of s.setting behind (suc (length entries)) ≡ Some (verdict.Conflict position))
       by_standing v at (StandsAs (CallEntry e)) is =
-          (e.call, there (StandsAs (CallEntry e)) is, at ∙ ap Some (conflict_by (with_bytes s entries bytes) (outcome.Committed e.reply) position v (λ x. absurd cc) (sym (at_last s entries bytes v at (StandsAs (CallEntry e)) is) ∙ told)))
+          (e.call, there (StandsAs (CallEntry e)) is, at ∙ ap Some (conflict_by (replies_to s (with_bytes s entries bytes) bytes) (outcome.Committed e.reply) position v (λ x. absurd cc) (sym (at_last s entries bytes v at (StandsAs (CallEntry e)) is) ∙ told)))
       by_standing v at (StandsAs (AdditionEntry p)) is =
-          let conflict = conflict_by (with_bytes s entries bytes) (outcome.Added p.number) position v (λ x. absurd cc) (sym (at_last s entries bytes v at (StandsAs (AdditionEntry p)) is) ∙ told) in
+          let conflict = conflict_by (replies_to s (with_bytes s entries bytes) bytes) (outcome.Added p.number) position v (λ x. absurd cc) (sym (at_last s entries bytes v at (StandsAs (AdditionEntry p)) is) ∙ told) in
           let known = ap (option_map (λ (c : CertifiedItem). c.verdict)) (addition_is s.setting behind (length entries) p is_log (there (StandsAs (AdditionEntry p)) is)) in
           absurd (never_on_addition (procedures_after s.setting behind (length entries)) p position (same_verdict _ v (sym known ∙ at) ∙ conflict))
         where
           same_verdict : (a b : Verdict) → Some a ≡ Some b → a ≡ b
           same_verdict a b e = cc
       by_standing v at (IsDecided call) is =
-          (_, there (IsDecided call) is, at ∙ ap Some (conflict_by (with_bytes s entries bytes) outcome.Stale position v (λ x. absurd cc) (sym (at_last s entries bytes v at (IsDecided call) is) ∙ told)))
+          (_, there (IsDecided call) is, at ∙ ap Some (conflict_by (replies_to s (with_bytes s entries bytes) bytes) outcome.Stale position v (λ x. absurd cc) (sym (at_last s entries bytes v at (IsDecided call) is) ∙ told)))
       by_standing v at (IsNothing c) is = absurd (nothing_else c (sym (at_last s entries bytes v at (IsNothing c) is) ∙ told))
         where
           nothing_else : (c : NothingCause) → outcome.Nothing c ≡ outcome.Conflict position → ⊥

@@ -63,4 +63,4 @@ module _ (one_more : OneMoreIsFit) (placed : ArePlaced) (carried : AreCarried) (
 
   pub order_is_fit : (order : Order) → IsOfBytes order → AreFitEntries s.setting (order_entries s order)
   unfolding order_entries
-  order_is_fit order are = fit_from [] order are (record { procedures = is.procedures; log = tt; items = tt; runs = tt })
+  order_is_fit order are = fit_from [] order are (record { begins = is.begins; log = tt; items = tt; runs = tt })

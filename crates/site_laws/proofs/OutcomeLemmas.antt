@@ -15,7 +15,7 @@ use Rattle.site_model.specs.declared.cause.NothingCause.TheVariants as cause
 use Rattle.site_model.specs.declared.outcome.EntryOutcome.{EntryOutcome}
 use Rattle.site_model.specs.declared.outcome.EntryOutcome.TheVariants as outcome
 use Rattle.site_model.specs.Standing.{SiteSetting, Standing, StandsAs, IsDecided, IsNothing, addition_standing, checked_standing, executed, standing}
-use Rattle.site_model.specs.Order.{committed_outcome, outcome_behind, outcome_by, outcome_of, with_bytes}
+use Rattle.site_model.specs.Order.{replies_to, committed_outcome, outcome_behind, outcome_by, outcome_of, with_bytes}
 use Rattle.site_model.specs.Answer.{stored_as}
 use Rattle.site_model.proofs.StandingLemmas.{addition_cases, call_cases, stands_as_addition, standing_cases}
 use Rattle.site_laws.specs.Added.{NamesProcedure}
@@ -75,30 +75,30 @@ pub record CommitsAs (s : SiteSetting) (entries : List Entry) (bytes : List ℕ)
   pub head : head_of bytes ≡ Some (CallHead call told)
   pub stands : standing s (items_of entries) bytes ≡ StandsAs (CallEntry (executed s.setting (items_of entries) call))
 
-never_committed : (entries : List Entry) (number : ℕ) (v : Option Verdict) (reply : ℕ) → outcome_by entries (outcome.Added number) v ≡ outcome.Committed reply → ⊥
-never_committed entries number None reply e = absurd cc
-never_committed entries number (Some verdict.Commit) reply e = absurd cc
-never_committed entries number (Some (verdict.Conflict n)) reply e = absurd cc
-never_committed entries number (Some verdict.Stale) reply e = absurd cc
-never_committed entries number (Some (verdict.Repeated n)) reply e = absurd cc
-never_committed entries number (Some (verdict.Taken i)) reply e = absurd cc
+never_committed : (replies : ℕ → ℕ) (number : ℕ) (v : Option Verdict) (reply : ℕ) → outcome_by replies (outcome.Added number) v ≡ outcome.Committed reply → ⊥
+never_committed replies number None reply e = absurd cc
+never_committed replies number (Some verdict.Commit) reply e = absurd cc
+never_committed replies number (Some (verdict.Conflict n)) reply e = absurd cc
+never_committed replies number (Some verdict.Stale) reply e = absurd cc
+never_committed replies number (Some (verdict.Repeated n)) reply e = absurd cc
+never_committed replies number (Some (verdict.Taken i)) reply e = absurd cc
 
-never_added : (entries : List Entry) (c : EntryOutcome) (number : ℕ) (v : Verdict) → (c ≡ outcome.Added number → ⊥) → outcome_by entries c (Some v) ≡ outcome.Added number → ⊥
-never_added entries c number verdict.Commit isnt e = isnt e
-never_added entries c number (verdict.Conflict n) isnt e = absurd cc
-never_added entries c number verdict.Stale isnt e = absurd cc
-never_added entries c number (verdict.Repeated n) isnt e = absurd cc
-never_added entries c number (verdict.Taken i) isnt e = absurd cc
+never_added : (replies : ℕ → ℕ) (c : EntryOutcome) (number : ℕ) (v : Verdict) → (c ≡ outcome.Added number → ⊥) → outcome_by replies c (Some v) ≡ outcome.Added number → ⊥
+never_added replies c number verdict.Commit isnt e = isnt e
+never_added replies c number (verdict.Conflict n) isnt e = absurd cc
+never_added replies c number verdict.Stale isnt e = absurd cc
+never_added replies c number (verdict.Repeated n) isnt e = absurd cc
+never_added replies c number (verdict.Taken i) isnt e = absurd cc
 
-adds : (entries : List Entry) (told number : ℕ) (v : Verdict) → outcome_by entries (outcome.Added told) (Some v) ≡ outcome.Added number → (v ≡ verdict.Commit) × (told ≡ number)
-adds entries told number verdict.Commit e = (refl, one told number e)
+adds : (replies : ℕ → ℕ) (told number : ℕ) (v : Verdict) → outcome_by replies (outcome.Added told) (Some v) ≡ outcome.Added number → (v ≡ verdict.Commit) × (told ≡ number)
+adds replies told number verdict.Commit e = (refl, one told number e)
   where
     one : (a b : ℕ) → outcome.Added a ≡ outcome.Added b → a ≡ b
     one a b e = cc
-adds entries told number (verdict.Conflict n) e = absurd cc
-adds entries told number verdict.Stale e = absurd cc
-adds entries told number (verdict.Repeated n) e = absurd cc
-adds entries told number (verdict.Taken i) e = absurd cc
+adds replies told number (verdict.Conflict n) e = absurd cc
+adds replies told number verdict.Stale e = absurd cc
+adds replies told number (verdict.Repeated n) e = absurd cc
+adds replies told number (verdict.Taken i) e = absurd cc
 
 module _ (s : SiteSetting) (entries : List Entry) (bytes : List ℕ) where
   abbrev all : List Entry
@@ -107,9 +107,9 @@ module _ (s : SiteSetting) (entries : List Entry) (bytes : List ℕ) where
   pub committed_from : (reply : ℕ) → outcome_behind s entries bytes ≡ outcome.Committed reply → (call : Call) × (told : ℕ) × CommitsAs s entries bytes call told
   committed_from reply commits = standing_cases Commits s log bytes (λ c e. absurd cc)
       (λ call told head e.
-      let stands = stands_by s.setting log call bytes all v reply e in
+      let stands = stands_by s.setting log call bytes (replies_to s all bytes) v reply e in
       (call, told, record { head = head; stands = by_head s log bytes call told head ∙ stands.stands }))
-      (λ n head. addition_cases Commits s n (λ c e. absurd cc) (λ q _ e. absurd (never_committed all q.number v reply e)))
+      (λ n head. addition_cases Commits s n (λ c e. absurd cc) (λ q _ e. absurd (never_committed (replies_to s all bytes) q.number v reply e)))
       commits
     where
       log : Log
@@ -119,7 +119,7 @@ module _ (s : SiteSetting) (entries : List Entry) (bytes : List ℕ) where
       v = verdict_of s.setting (items_of all) (length entries + 1)
 
       Commits : Standing → Type 0
-      Commits st = outcome_of all st v ≡ outcome.Committed reply → (call : Call) × (told : ℕ) × CommitsAs s entries bytes call told
+      Commits st = outcome_of (replies_to s all bytes) st v ≡ outcome.Committed reply → (call : Call) × (told : ℕ) × CommitsAs s entries bytes call told
 
   -- a procedure that is added
   pub added_from : HaveVerdicts → (number : ℕ) → outcome_behind s entries bytes ≡ outcome.Added number
@@ -130,11 +130,11 @@ module _ (s : SiteSetting) (entries : List Entry) (bytes : List ℕ) where
     where
       by_standing : (v : Verdict) → verdict_of s.setting (items_of all) (suc (length entries)) ≡ Some v → (st : Standing) → standing s (items_of entries) bytes ≡ st
           → (p : StoredProcedure) × (standing s (items_of entries) bytes ≡ StandsAs (AdditionEntry p)) × (verdict_of s.setting (items_of all) (suc (length entries)) ≡ Some verdict.Commit) × (p.number ≡ number)
-      by_standing v at (StandsAs (CallEntry e)) is = absurd (never_added all (outcome.Committed e.reply) number v (λ x. absurd cc) (sym (at_last s entries bytes v at (StandsAs (CallEntry e)) is) ∙ told))
+      by_standing v at (StandsAs (CallEntry e)) is = absurd (never_added (replies_to s all bytes) (outcome.Committed e.reply) number v (λ x. absurd cc) (sym (at_last s entries bytes v at (StandsAs (CallEntry e)) is) ∙ told))
       by_standing v at (StandsAs (AdditionEntry p)) is =
-          let (commit, same) = adds all p.number number v (sym (at_last s entries bytes v at (StandsAs (AdditionEntry p)) is) ∙ told) in
+          let (commit, same) = adds (replies_to s all bytes) p.number number v (sym (at_last s entries bytes v at (StandsAs (AdditionEntry p)) is) ∙ told) in
           (p, is, at ∙ ap Some commit, same)
-      by_standing v at (IsDecided call) is = absurd (never_added all outcome.Stale number v (λ x. absurd cc) (sym (at_last s entries bytes v at (IsDecided call) is) ∙ told))
+      by_standing v at (IsDecided call) is = absurd (never_added (replies_to s all bytes) outcome.Stale number v (λ x. absurd cc) (sym (at_last s entries bytes v at (IsDecided call) is) ∙ told))
       by_standing v at (IsNothing c) is = absurd (nothing_else c (sym (at_last s entries bytes v at (IsNothing c) is) ∙ told))
         where
           nothing_else : (c : NothingCause) → outcome.Nothing c ≡ outcome.Added number → ⊥
@@ -154,6 +154,6 @@ module _ (s : SiteSetting) (entries : List Entry) (bytes : List ℕ) where
       same_cause c e = cc
 
       by_standing : (v : Verdict) → verdict_of s.setting (items_of all) (suc (length entries)) ≡ Some v → (st : Standing) → standing s (items_of entries) bytes ≡ st → standing s (items_of entries) bytes ≡ IsNothing why
-      by_standing v at (StandsAs e) is = absurd (never_nothing all (committed_outcome e) why (Some v) (committed_is_something e) (sym (at_last s entries bytes v at (StandsAs e) is) ∙ told))
-      by_standing v at (IsDecided call) is = absurd (never_nothing all outcome.Stale why (Some v) (λ x. absurd cc) (sym (at_last s entries bytes v at (IsDecided call) is) ∙ told))
+      by_standing v at (StandsAs e) is = absurd (never_nothing (replies_to s all bytes) (committed_outcome e) why (Some v) (committed_is_something e) (sym (at_last s entries bytes v at (StandsAs e) is) ∙ told))
+      by_standing v at (IsDecided call) is = absurd (never_nothing (replies_to s all bytes) outcome.Stale why (Some v) (λ x. absurd cc) (sym (at_last s entries bytes v at (IsDecided call) is) ∙ told))
       by_standing v at (IsNothing c) is = is ∙ same_cause c (sym (at_last s entries bytes v at (IsNothing c) is) ∙ told)

@@ -30,7 +30,7 @@ use Rattle.site_model.specs.declared.outcome.EntryOutcome.TheVariants as outcome
 use Rattle.site_model.specs.declared.answer.CallAnswer.{CallAnswer}
 use Rattle.site_model.specs.declared.answer.CallAnswer.TheVariants as call
 use Rattle.site_model.specs.Standing.{SiteSetting, Standing, StandsAs, IsDecided, IsNothing, call_standing, executed, is_decided, is_true, takes_arguments, writes_something, addition_standing, checked_standing, standing, standing_of_head}
-use Rattle.site_model.specs.Order.{outcome_behind, outcome_by, outcome_of, with_bytes}
+use Rattle.site_model.specs.Order.{reply_to, replies_to, outcome_behind, outcome_by, outcome_of, with_bytes}
 use Rattle.site_model.specs.Answer.{Asked, answer_for, asked_call, unless_cancelled, unless_repeated, addition_answer, answer_of_check, stored_as}
 use Rattle.site_laws.proofs.SettledLemmas.{by_admission, by_head}
 
@@ -49,7 +49,7 @@ same_bytes a b e = cc
 pub ordered_by : (w : Setting) (entries : List Entry) (asked : Asked) (p : StoredProcedure) (bytes : List ℕ) → answer_for w entries asked (Some p) ≡ call.Submitted bytes → Ordered w (items_of entries) p asked bytes
 ordered_by w entries asked p bytes =
     by_admission w entries asked p (λ (answer : CallAnswer (List ℕ)). answer ≡ call.Submitted bytes → Ordered w log p asked bytes) (λ refusal e. absurd cc)
-    (λ fits whole. by_run (as_long p.args_len (length asked.args) fits) whole (first_repeated (history w log).certified (asked_call log p asked)) run.cancel_code refl (len run.writes == 0) refl)
+    (λ fits whole. by_run (as_long p.args_len (length asked.args) fits) whole (first_repeated w.beginning.requests (history w log).certified (asked_call log p asked)) run.cancel_code refl (len run.writes == 0) refl)
   where
     log : Log
     log = items_of entries
@@ -61,7 +61,7 @@ ordered_by w entries asked p bytes =
     own = entry_bytes (CallEntry (executed w log (asked_call log p asked)))
 
     by_run : (p.args_len == length asked.args) ≡ true → has_zero asked.request ≡ false → (o code : Option ℕ) → run.cancel_code ≡ code → (none : Bool) → (len run.writes == 0) ≡ none
-        → unless_repeated entries (unless_cancelled (length log) run own code) o ≡ call.Submitted bytes → Ordered w log p asked bytes
+        → unless_repeated (reply_to w entries asked.request) (unless_cancelled (length log) run own code) o ≡ call.Submitted bytes → Ordered w log p asked bytes
     by_run ea eb (Some position) code ec none en e = absurd cc
     by_run ea eb None (Some code) ec none en e = absurd cc
     by_run ea eb None None ec true en e =
@@ -81,13 +81,13 @@ ordered_by w entries asked p bytes =
 
 -- ---- behind entries that go on
 
-pub never_nothing : (entries : List Entry) (c : EntryOutcome) (cause : NothingCause) (v : Option Verdict) → (c ≡ outcome.Nothing cause → ⊥) → outcome_by entries c v ≡ outcome.Nothing cause → ⊥
-never_nothing entries c cause None isnt e = isnt e
-never_nothing entries c cause (Some verdict.Commit) isnt e = isnt e
-never_nothing entries c cause (Some (verdict.Conflict n)) isnt e = absurd cc
-never_nothing entries c cause (Some verdict.Stale) isnt e = absurd cc
-never_nothing entries c cause (Some (verdict.Repeated n)) isnt e = absurd cc
-never_nothing entries c cause (Some (verdict.Taken i)) isnt e = absurd cc
+pub never_nothing : (replies : ℕ → ℕ) (c : EntryOutcome) (cause : NothingCause) (v : Option Verdict) → (c ≡ outcome.Nothing cause → ⊥) → outcome_by replies c v ≡ outcome.Nothing cause → ⊥
+never_nothing replies c cause None isnt e = isnt e
+never_nothing replies c cause (Some verdict.Commit) isnt e = isnt e
+never_nothing replies c cause (Some (verdict.Conflict n)) isnt e = absurd cc
+never_nothing replies c cause (Some verdict.Stale) isnt e = absurd cc
+never_nothing replies c cause (Some (verdict.Repeated n)) isnt e = absurd cc
+never_nothing replies c cause (Some (verdict.Taken i)) isnt e = absurd cc
 
 stale_is_something : (cause : NothingCause) → outcome.Stale ≡ outcome.Nothing cause → ⊥
 stale_is_something cause e = absurd cc
@@ -96,17 +96,17 @@ reply_is_something : (reply : ℕ) (cause : NothingCause) → outcome.Committed 
 reply_is_something reply cause e = absurd cc
 
 -- a call that passes the tests isn't nothing
-not_nothing : (w : Setting) (log : Log) (c : Call) (bytes : List ℕ) (entries : List Entry) (v : Option Verdict) (why : NothingCause) → nat_le c.snapshot (length log) ≡ true → takes_arguments (procedure_of w log c) c.args ≡ true
-    → is_true w log c bytes ≡ true → outcome_of entries (call_standing w log c bytes) v ≡ outcome.Nothing why → ⊥
-not_nothing w log c bytes entries v why early takes is told =
-    by_decided (is_decided w log c) (sym (ap (λ (st : Standing). outcome_of entries st v) (λ i. tested (early i) (is_decided w log c) (takes i) (is i))) ∙ told)
+not_nothing : (w : Setting) (log : Log) (c : Call) (bytes : List ℕ) (replies : ℕ → ℕ) (v : Option Verdict) (why : NothingCause) → nat_le c.snapshot (length log) ≡ true → takes_arguments (procedure_of w log c) c.args ≡ true
+    → is_true w log c bytes ≡ true → outcome_of replies (call_standing w log c bytes) v ≡ outcome.Nothing why → ⊥
+not_nothing w log c bytes replies v why early takes is told =
+    by_decided (is_decided w log c) (sym (ap (λ (st : Standing). outcome_of replies st v) (λ i. tested (early i) (is_decided w log c) (takes i) (is i))) ∙ told)
   where
     tested : Bool → Bool → Bool → Bool → Standing
     tested a b t u = cond (not a) (IsNothing cause.Snapshot) (cond b (IsDecided c) (cond (not t) (IsNothing cause.Procedure) (cond u (StandsAs (CallEntry (executed w log c))) (IsNothing cause.Untrue))))
 
-    by_decided : (b : Bool) → outcome_of entries (tested true b true true) v ≡ outcome.Nothing why → ⊥
-    by_decided true e = never_nothing entries outcome.Stale why v (stale_is_something why) e
-    by_decided false e = never_nothing entries (outcome.Committed (executed w log c).reply) why v (reply_is_something (executed w log c).reply why) e
+    by_decided : (b : Bool) → outcome_of replies (tested true b true true) v ≡ outcome.Nothing why → ⊥
+    by_decided true e = never_nothing replies outcome.Stale why v (stale_is_something why) e
+    by_decided false e = never_nothing replies (outcome.Committed (executed w log c).reply) why v (reply_is_something (executed w log c).reply why) e
 
 -- a call that was submitted behind some entries, where they go on: it passes the tests, and runs as it ran
 pub record IsOwn (s : SiteSetting) (entries later : List Entry) (bytes : List ℕ) (c : Call) : Type 0 where
@@ -149,8 +149,8 @@ own_stands s entries later bytes c why own nothing =
     let w = s.setting in
     let all = entries ++ later in
     let v = verdict_of w (items_of (with_bytes s all bytes)) (length all + 1) in
-    not_nothing w (items_of all) c bytes (with_bytes s all bytes) v why own.early own.takes own.is
-    (sym (ap (λ (st : Standing). outcome_of (with_bytes s all bytes) st v) (by_head s (items_of all) bytes c (executed w (items_of entries) c).reply own.head)) ∙ nothing)
+    not_nothing w (items_of all) c bytes (replies_to s (with_bytes s all bytes) bytes) v why own.early own.takes own.is
+    (sym (ap (λ (st : Standing). outcome_of (replies_to s (with_bytes s all bytes) bytes) st v) (by_head s (items_of all) bytes c (executed w (items_of entries) c).reply own.head)) ∙ nothing)
 
 -- ---- additions
 
@@ -194,5 +194,5 @@ own_addition_stands s entries p program bytes why few passes spelled head answer
     let stands : addition_standing s p ≡ StandsAs (AdditionEntry (stored_as p program)) =
     ap (λ (b : Bool). cond b (checked_standing p (check_of s.setting.tables p.args_len p.bytes)) (IsNothing cause.Addition)) tests ∙ ap (checked_standing p) passes in
     let v = verdict_of s.setting (items_of (with_bytes s entries bytes)) (length entries + 1) in
-    never_nothing (with_bytes s entries bytes) (outcome.Added p.number) why v (added_is_something p.number why)
-    (sym (ap (λ (st : Standing). outcome_of (with_bytes s entries bytes) st v) (head_stands s (items_of entries) bytes p same_head ∙ stands)) ∙ nothing)
+    never_nothing (replies_to s (with_bytes s entries bytes) bytes) (outcome.Added p.number) why v (added_is_something p.number why)
+    (sym (ap (λ (st : Standing). outcome_of (replies_to s (with_bytes s entries bytes) bytes) st v) (head_stands s (items_of entries) bytes p same_head ∙ stands)) ∙ nothing)

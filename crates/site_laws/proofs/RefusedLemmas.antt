@@ -10,7 +10,7 @@ use Rattle.bpf_semantics.specs.Run.{Run}
 use Rattle.log_model.specs.declared.request.RequestId.{RequestId}
 use Rattle.log_model.specs.declared.verdict.Verdict.{Verdict}
 use Rattle.log_model.specs.declared.verdict.Verdict.TheVariants as verdict
-use Rattle.log_model.specs.Log.{StoredProcedure, Catalogue, Setting, Call, CertifiedItem, Item, CallItem, AdditionItem, Log, IsLog, IsLogFrom, IsPlaced, by_number, first_repeated, history, or_idle, procedure_of, procedures_after, rows_after, run_in, run_of_call, run_of_procedure, run_on, conflicts, first_position, unless_conflict, unless_repeated, verdict_after, verdict_of}
+use Rattle.log_model.specs.Log.{DoneRequest, StoredProcedure, Catalogue, Setting, Call, CertifiedItem, Item, CallItem, AdditionItem, Log, IsLog, IsLogFrom, IsPlaced, by_number, first_repeated, history, or_idle, procedure_of, procedures_after, rows_after, run_in, run_of_call, run_of_procedure, run_on, conflicts, first_position, unless_conflict, unless_repeated, verdict_after, verdict_of}
 use Rattle.log_model.specs.Entries.{Entry, ExecutedCall, CallEntry, AdditionEntry, item_of, items_of}
 use Rattle.log_model.specs.Fit.{AllFitLog, FitsLog, FitsProcedures}
 use Rattle.log_model.specs.Verdicts.{IsConflict, IsLeastConflict, IsNew, WroteWhatWasRead}
@@ -20,7 +20,7 @@ use Rattle.log_entry.specs.Head.{CallHead, head_of}
 use Rattle.site_model.specs.declared.outcome.EntryOutcome.TheVariants as outcome
 use Rattle.site_model.specs.Fit.{AreFitEntries}
 use Rattle.site_model.specs.Standing.{SiteSetting, Standing, StandsAs, IsDecided, call_standing, executed, is_decided, standing}
-use Rattle.site_model.specs.Order.{call_of_none, entry_standing, next_entry, outcome_behind, outcome_by, outcome_of, with_bytes}
+use Rattle.site_model.specs.Order.{replies_to, call_of_none, entry_standing, next_entry, outcome_behind, outcome_by, outcome_of, with_bytes}
 use Rattle.site_model.proofs.StandingLemmas.{none_unused}
 use Rattle.site_laws.specs.Settled.{AsksAgain}
 use Rattle.site_laws.proofs.LogLemmas.{HaveVerdicts, RunsAlike, commits_there}
@@ -50,29 +50,29 @@ front_fits w log more is fits = all_fit_before w log more 0 log (front_is_log 0 
 
 -- ---- what was refused
 
-by_conflict : (entries : List Entry) (reply position : ℕ) (v : Option Verdict) → outcome_by entries (outcome.Committed reply) v ≡ outcome.Conflict position → v ≡ Some (verdict.Conflict position)
-by_conflict entries reply position None e = absurd cc
-by_conflict entries reply position (Some verdict.Commit) e = absurd cc
-by_conflict entries reply position (Some (verdict.Conflict n)) e = let same : n ≡ position = cc in ap (λ (k : ℕ). Some (verdict.Conflict k)) same
-by_conflict entries reply position (Some verdict.Stale) e = absurd cc
-by_conflict entries reply position (Some (verdict.Repeated n)) e = absurd cc
-by_conflict entries reply position (Some (verdict.Taken i)) e = absurd cc
+by_conflict : (replies : ℕ → ℕ) (reply position : ℕ) (v : Option Verdict) → outcome_by replies (outcome.Committed reply) v ≡ outcome.Conflict position → v ≡ Some (verdict.Conflict position)
+by_conflict replies reply position None e = absurd cc
+by_conflict replies reply position (Some verdict.Commit) e = absurd cc
+by_conflict replies reply position (Some (verdict.Conflict n)) e = let same : n ≡ position = cc in ap (λ (k : ℕ). Some (verdict.Conflict k)) same
+by_conflict replies reply position (Some verdict.Stale) e = absurd cc
+by_conflict replies reply position (Some (verdict.Repeated n)) e = absurd cc
+by_conflict replies reply position (Some (verdict.Taken i)) e = absurd cc
 
-by_default_conflict : (entries : List Entry) (position : ℕ) (v : Option Verdict) → outcome_by entries outcome.Stale v ≡ outcome.Conflict position → v ≡ Some (verdict.Conflict position)
-by_default_conflict entries position None e = absurd cc
-by_default_conflict entries position (Some verdict.Commit) e = absurd cc
-by_default_conflict entries position (Some (verdict.Conflict n)) e = let same : n ≡ position = cc in ap (λ (k : ℕ). Some (verdict.Conflict k)) same
-by_default_conflict entries position (Some verdict.Stale) e = absurd cc
-by_default_conflict entries position (Some (verdict.Repeated n)) e = absurd cc
-by_default_conflict entries position (Some (verdict.Taken i)) e = absurd cc
+by_default_conflict : (replies : ℕ → ℕ) (position : ℕ) (v : Option Verdict) → outcome_by replies outcome.Stale v ≡ outcome.Conflict position → v ≡ Some (verdict.Conflict position)
+by_default_conflict replies position None e = absurd cc
+by_default_conflict replies position (Some verdict.Commit) e = absurd cc
+by_default_conflict replies position (Some (verdict.Conflict n)) e = let same : n ≡ position = cc in ap (λ (k : ℕ). Some (verdict.Conflict k)) same
+by_default_conflict replies position (Some verdict.Stale) e = absurd cc
+by_default_conflict replies position (Some (verdict.Repeated n)) e = absurd cc
+by_default_conflict replies position (Some (verdict.Taken i)) e = absurd cc
 
-by_stale : (entries : List Entry) (reply : ℕ) (v : Option Verdict) → outcome_by entries (outcome.Committed reply) v ≡ outcome.Stale → v ≡ Some verdict.Stale
-by_stale entries reply None e = absurd cc
-by_stale entries reply (Some verdict.Commit) e = absurd cc
-by_stale entries reply (Some (verdict.Conflict n)) e = absurd cc
-by_stale entries reply (Some verdict.Stale) e = refl
-by_stale entries reply (Some (verdict.Repeated n)) e = absurd cc
-by_stale entries reply (Some (verdict.Taken i)) e = absurd cc
+by_stale : (replies : ℕ → ℕ) (reply : ℕ) (v : Option Verdict) → outcome_by replies (outcome.Committed reply) v ≡ outcome.Stale → v ≡ Some verdict.Stale
+by_stale replies reply None e = absurd cc
+by_stale replies reply (Some verdict.Commit) e = absurd cc
+by_stale replies reply (Some (verdict.Conflict n)) e = absurd cc
+by_stale replies reply (Some verdict.Stale) e = refl
+by_stale replies reply (Some (verdict.Repeated n)) e = absurd cc
+by_stale replies reply (Some (verdict.Taken i)) e = absurd cc
 
 -- one that carries the request of a committed call is told so
 first_of : {X : Type 0} (xs ys : List X) (n : ℕ) → length xs ≡ n → take n (xs ++ ys) ≡ xs
@@ -86,16 +86,16 @@ past_is w log more =
     let g = grown w log more in
     ap (take (length log)) g.certified_is ∙ first_of (history w log).certified g.certified (length log) (count_history w log)
 
-repeated_after : (window : ℕ) (past : List CertifiedItem) (call : Call) (looks : List Look) (n : ℕ) → first_repeated past call ≡ Some n → verdict_after window past call looks ≡ verdict.Repeated n
+repeated_after : (window : ℕ) (done : List DoneRequest) (past : List CertifiedItem) (call : Call) (looks : List Look) (n : ℕ) → first_repeated done past call ≡ Some n → verdict_after window done past call looks ≡ verdict.Repeated n
 unfolding verdict_after
-repeated_after window past call looks n is = ap (λ (o : Option ℕ). unless_repeated o (cond (nat_le (length past - call.snapshot) window) (unless_conflict (first_position (conflicts looks) (call.snapshot + 1) (drop call.snapshot past))) verdict.Stale)) is
+repeated_after window done past call looks n is = ap (λ (o : Option ℕ). unless_repeated o (cond (nat_le (length past - call.snapshot) window) (unless_conflict (first_position (conflicts looks) (call.snapshot + 1) (drop call.snapshot past))) verdict.Stale)) is
 
-repeated_there : (w : Setting) (log : Log) (call : Call) (n : ℕ) → IsLog (log ++ CallItem call ∷ []) → first_repeated (history w log).certified call ≡ Some n
+repeated_there : (w : Setting) (log : Log) (call : Call) (n : ℕ) → IsLog (log ++ CallItem call ∷ []) → first_repeated w.beginning.requests (history w log).certified call ≡ Some n
     → verdict_of w (log ++ CallItem call ∷ []) (suc (length log)) ≡ Some (verdict.Repeated n)
 repeated_there w log call n is repeated =
     ap (option_map (λ (c : CertifiedItem). c.verdict)) (certified_is w (log ++ CallItem call ∷ []) (length log) call is (last_there log (CallItem call)))
-    ∙ ap Some (repeated_after w.window (take (length log) (history w (log ++ CallItem call ∷ [])).certified) call (run_in w (log ++ CallItem call ∷ []) call).looks n
-    (ap (λ (past : List CertifiedItem). first_repeated past call) (past_is w log (CallItem call ∷ [])) ∙ repeated))
+    ∙ ap Some (repeated_after w.window w.beginning.requests (take (length log) (history w (log ++ CallItem call ∷ [])).certified) call (run_in w (log ++ CallItem call ∷ []) call).looks n
+    (ap (λ (past : List CertifiedItem). first_repeated w.beginning.requests past call) (past_is w log (CallItem call ∷ [])) ∙ repeated))
 
 -- a call of no procedure looks at nothing
 none_looks : (w : Setting) (log : Log) (snapshot : ℕ) (request : Option RequestId) → snapshot ≤ length log
@@ -133,14 +133,17 @@ module _ (s : SiteSetting) (entries : List Entry) (bytes : List ℕ) (call : Cal
   abbrev behind : List Entry
   behind = with_bytes s entries bytes
 
+  abbrev replies : ℕ → ℕ
+  replies = replies_to s (with_bytes s entries bytes) bytes
+
   abbrev next_verdict : Option Verdict
   next_verdict = verdict_of s.setting (items_of (with_bytes s entries bytes)) (length entries + 1)
 
   by_its_standing : standing s log bytes ≡ call_standing s.setting log call bytes
   by_its_standing = by_head s log bytes call told head
 
-  outcome_is : outcome_behind s entries bytes ≡ outcome_of (with_bytes s entries bytes) (call_standing s.setting log call bytes) next_verdict
-  outcome_is = ap (λ (st : Standing). outcome_of (with_bytes s entries bytes) st next_verdict) by_its_standing
+  outcome_is : outcome_behind s entries bytes ≡ outcome_of (replies_to s (with_bytes s entries bytes) bytes) (call_standing s.setting log call bytes) next_verdict
+  outcome_is = ap (λ (st : Standing). outcome_of (replies_to s (with_bytes s entries bytes) bytes) st next_verdict) by_its_standing
 
   -- its item, as it stands
   item_is : (st : Standing) → call_standing s.setting log call bytes ≡ st → items_of (with_bytes s entries bytes) ≡ log ++ item_of (entry_standing s.setting log st) ∷ []
@@ -157,54 +160,54 @@ module _ (s : SiteSetting) (entries : List Entry) (bytes : List ℕ) (call : Cal
   -- stale: more items than the window were ordered since its snapshot
   pub is_stale : StaleMeans → IsLog (items_of (with_bytes s entries bytes)) → outcome_behind s entries bytes ≡ outcome.Stale → s.setting.window < length log - call.snapshot
   is_stale means is_log refused =
-      by_standing setting log call bytes (λ st. call_standing setting log call bytes ≡ st → outcome_of behind st next_verdict ≡ outcome.Stale → setting.window < length log - call.snapshot)
+      by_standing setting log call bytes (λ st. call_standing setting log call bytes ≡ st → outcome_of replies st next_verdict ≡ outcome.Stale → setting.window < length log - call.snapshot)
       (λ c is told. absurd cc) decided stands refl (sym outcome_is ∙ refused)
     where
-      decided : nat_le call.snapshot (length log) ≡ true → is_decided setting log call ≡ true → call_standing setting log call bytes ≡ IsDecided call → outcome_by behind outcome.Stale next_verdict ≡ outcome.Stale → setting.window < length log - call.snapshot
-      decided early is stands_so told = by_count (nat_le (length log - call.snapshot) setting.window) refl (first_repeated (history setting log).certified call) refl is
+      decided : nat_le call.snapshot (length log) ≡ true → is_decided setting log call ≡ true → call_standing setting log call bytes ≡ IsDecided call → outcome_by replies outcome.Stale next_verdict ≡ outcome.Stale → setting.window < length log - call.snapshot
+      decided early is stands_so told = by_count (nat_le (length log - call.snapshot) setting.window) refl (first_repeated setting.beginning.requests (history setting log).certified call) refl is
         where
           none : Call
           none = call_of_none (procedures_after setting log call.snapshot) call.snapshot call.request
 
-          by_count : (b : Bool) → nat_le (length log - call.snapshot) setting.window ≡ b → (o : Option ℕ) → first_repeated (history setting log).certified call ≡ o → (is_some o || not b) ≡ true → setting.window < length log - call.snapshot
+          by_count : (b : Bool) → nat_le (length log - call.snapshot) setting.window ≡ b → (o : Option ℕ) → first_repeated setting.beginning.requests (history setting log).certified call ≡ o → (is_some o || not b) ≡ true → setting.window < length log - call.snapshot
           by_count false e o r is = grind (arith, nat_tests)
           by_count true e None r is = absurd cc
           by_count true e (Some n) r is =
               let items = item_is (IsDecided call) stands_so in
               let repeated = verdict_is (CallItem none) items ∙ repeated_there setting log none n (subst IsLog items is_log) r in
-              absurd (not_told n (sym (ap (outcome_by behind outcome.Stale) repeated) ∙ told))
+              absurd (not_told n (sym (ap (outcome_by replies outcome.Stale) repeated) ∙ told))
             where
-              not_told : (n : ℕ) → outcome_by behind outcome.Stale (Some (verdict.Repeated n)) ≡ outcome.Stale → ⊥
+              not_told : (n : ℕ) → outcome_by replies outcome.Stale (Some (verdict.Repeated n)) ≡ outcome.Stale → ⊥
               not_told n e = absurd cc
 
-      stands : Stands setting log call bytes → call_standing setting log call bytes ≡ StandsAs (CallEntry (executed setting log call)) → outcome_by behind (outcome.Committed (executed setting log call).reply) next_verdict ≡ outcome.Stale → setting.window < length log - call.snapshot
+      stands : Stands setting log call bytes → call_standing setting log call bytes ≡ StandsAs (CallEntry (executed setting log call)) → outcome_by replies (outcome.Committed (executed setting log call).reply) next_verdict ≡ outcome.Stale → setting.window < length log - call.snapshot
       stands st stands_so told =
           let items = item_is (StandsAs (CallEntry (executed setting log call))) stands_so in
-          let stale = sym (verdict_is (CallItem call) items) ∙ by_stale behind (executed setting log call).reply next_verdict told in
+          let stale = sym (verdict_is (CallItem call) items) ∙ by_stale replies (executed setting log call).reply next_verdict told in
           ((means setting (log ++ CallItem call ∷ []) (length log) call (subst IsLog items is_log) (last_there log (CallItem call))).0 stale).1
 
   -- in conflict with what a committed call wrote, which its run had looked at
   pub is_conflicted : ConflictMeans → IsLog (items_of (with_bytes s entries bytes)) → (position : ℕ) → outcome_behind s entries bytes ≡ outcome.Conflict position
       → IsConflict s.setting (log ++ CallItem call ∷ []) call position (suc (length log)) × (call.snapshot ≤ length log) × (items_of (with_bytes s entries bytes) ≡ log ++ CallItem call ∷ [])
   is_conflicted means is_log position refused =
-      by_standing setting log call bytes (λ st. call_standing setting log call bytes ≡ st → outcome_of behind st next_verdict ≡ outcome.Conflict position → Found)
+      by_standing setting log call bytes (λ st. call_standing setting log call bytes ≡ st → outcome_of replies st next_verdict ≡ outcome.Conflict position → Found)
       (λ c is told. absurd cc) decided stands refl (sym outcome_is ∙ refused)
     where
       Found : Type 0
       Found = IsConflict setting (log ++ CallItem call ∷ []) call position (suc (length log)) × (call.snapshot ≤ length log) × (items_of behind ≡ log ++ CallItem call ∷ [])
 
-      decided : nat_le call.snapshot (length log) ≡ true → is_decided setting log call ≡ true → call_standing setting log call bytes ≡ IsDecided call → outcome_by behind outcome.Stale next_verdict ≡ outcome.Conflict position → Found
+      decided : nat_le call.snapshot (length log) ≡ true → is_decided setting log call ≡ true → call_standing setting log call bytes ≡ IsDecided call → outcome_by replies outcome.Stale next_verdict ≡ outcome.Conflict position → Found
       decided early is stands_so told =
           let none = call_of_none (procedures_after setting log call.snapshot) call.snapshot call.request in
           let items = item_is (IsDecided call) stands_so in
-          let conflict = sym (verdict_is (CallItem none) items) ∙ by_default_conflict behind position next_verdict told in
+          let conflict = sym (verdict_is (CallItem none) items) ∙ by_default_conflict replies position next_verdict told in
           let facts = (means setting (log ++ CallItem none ∷ []) (length log) none position (subst IsLog items is_log) (last_there log (CallItem none))).0 conflict in
           absurd (no_conflict_of_none setting (log ++ CallItem none ∷ []) none [] position (suc (length log)) refl (none_looks setting log call.snapshot call.request (long_enough early)) facts.2.is)
 
-      stands : Stands setting log call bytes → call_standing setting log call bytes ≡ StandsAs (CallEntry (executed setting log call)) → outcome_by behind (outcome.Committed (executed setting log call).reply) next_verdict ≡ outcome.Conflict position → Found
+      stands : Stands setting log call bytes → call_standing setting log call bytes ≡ StandsAs (CallEntry (executed setting log call)) → outcome_by replies (outcome.Committed (executed setting log call).reply) next_verdict ≡ outcome.Conflict position → Found
       stands st stands_so told =
           let items = item_is (StandsAs (CallEntry (executed setting log call))) stands_so in
-          let conflict = sym (verdict_is (CallItem call) items) ∙ by_conflict behind (executed setting log call).reply position next_verdict told in
+          let conflict = sym (verdict_is (CallItem call) items) ∙ by_conflict replies (executed setting log call).reply position next_verdict told in
           let is = subst IsLog items is_log in
           let there = last_there log (CallItem call) in
           let facts = (means setting (log ++ CallItem call ∷ []) (length log) call position is there).0 conflict in
@@ -227,8 +230,8 @@ commits_behind s entries bytes call told reply verdicts next_fits are_bytes head
     let log = items_of entries in
     let es = executed w log call in
     let by = by_head s log bytes call told head in
-    let st = stands_by w log call bytes (with_bytes s entries bytes) (verdict_of w (items_of (with_bytes s entries bytes)) (length entries + 1)) reply
-    (sym (ap (λ (x : Standing). outcome_of (with_bytes s entries bytes) x (verdict_of w (items_of (with_bytes s entries bytes)) (length entries + 1))) by) ∙ commits) in
+    let st = stands_by w log call bytes (replies_to s (with_bytes s entries bytes) bytes) (verdict_of w (items_of (with_bytes s entries bytes)) (length entries + 1)) reply
+    (sym (ap (λ (x : Standing). outcome_of (replies_to s (with_bytes s entries bytes) bytes) x (verdict_of w (items_of (with_bytes s entries bytes)) (length entries + 1))) by) ∙ commits) in
     let stands : standing s log bytes ≡ StandsAs (CallEntry es) = by ∙ st.stands in
     let there = commits_there s entries bytes verdicts es reply stands commits in
     let next : next_entry s entries bytes ≡ CallEntry es = ap (entry_standing w log) stands in
@@ -302,7 +305,7 @@ module _ (s : SiteSetting) (base later : List Entry) (first second : List ℕ) (
       let long_log : IsLog ((old ++ more) ++ CallItem b ∷ []) = subst (λ (l : Log). IsLog (l ++ CallItem b ∷ [])) from_old (subst IsLog c.items all_log) in
       let commit : verdict_of w ((old ++ more) ++ CallItem b ∷ []) (suc (length (old ++ more))) ≡ Some verdict.Commit =
       subst (λ (l : Log). verdict_of w (l ++ CallItem b ∷ []) (suc (length l)) ≡ Some verdict.Commit) from_old c.commit in
-      let run = runs_alike w old more b b_early means alike are.procedures short_log long_log (more_fits w old (CallItem b) old_log old_fits b_early b_fits) commit in
+      let run = runs_alike w old more b b_early means alike are.begins short_log long_log (more_fits w old (CallItem b) old_log old_fits b_early b_fits) commit in
       -- so it looks where the first one looked
       let known : by_number (procedures_after w old b.snapshot) b.procedure ≡ Some c.procedure = ap (λ (ps : Catalogue). by_number ps b.procedure) (sym grown_old) ∙ c.known in
       let known_then : by_number (procedures_after w old a.snapshot) a.procedure ≡ Some c.procedure =

@@ -15,7 +15,7 @@ use Rattle.log_model.specs.Log.{StoredProcedure, Catalogue, Setting, Call, Item,
 use Rattle.log_model.specs.Entries.{Entry, ExecutedCall, CallEntry, AdditionEntry, item_of, items_of}
 use Rattle.log_entry.specs.Bytes.{entry_bytes}
 use Rattle.log_entry.specs.Head.{CallHead, head_of}
-use Rattle.log_model.specs.Fit.{AllFitLog, FitsLog, FitsProcedures, HasSafeProcedures, IsSafe}
+use Rattle.log_model.specs.Fit.{AllFitLog, FitsLog, FitsProcedures, BeginsSafely, IsSafe}
 use Rattle.log_model.specs.Verdicts.{IsConflict, IsNew, WroteWhatWasRead}
 use Rattle.log_model.proofs.GrowthLemmas.{get_before, is_log_snoc, procedures_grown, rows_grown, run_grown, verdict_grown}
 use Rattle.site_model.specs.declared.outcome.EntryOutcome.TheVariants as outcome
@@ -29,7 +29,7 @@ use Rattle.log_model.specs.OpenRequest.{has_zero}
 use Rattle.log_model.proofs.AdmissionLemmas.{is_admitted}
 use Rattle.site_model.specs.Fit.{AreFitEntries}
 use Rattle.site_model.specs.Standing.{SiteSetting, Standing, StandsAs, IsDecided, IsNothing, call_standing, executed, is_decided, is_true, standing, standing_of_head, takes_arguments, writes_something}
-use Rattle.site_model.specs.Order.{Order, entry_standing, next_entry, order_entries, order_log, outcome_behind, outcome_by, outcome_of, with_bytes}
+use Rattle.site_model.specs.Order.{reply_to, replies_to, Order, entry_standing, next_entry, order_entries, order_log, outcome_behind, outcome_by, outcome_of, with_bytes}
 use Rattle.site_model.specs.Answer.{Asked, answer_for, answer_of_admission, answer_of_run, asked_call, call_answer, call_answer_behind, unless_cancelled, unless_repeated}
 use Rattle.site_laws.specs.Settled.{IsSettled}
 use Rattle.site_laws.proofs.LogLemmas.{HaveVerdicts, RunsAlike, commits_there}
@@ -90,17 +90,20 @@ module _ (w : Setting) (log more : Log) (call : Call) (early : call.snapshot ≤
   long_length = omega (arith, length-append log more)
 
   new_before : IsNew w long call (suc (length (log ++ more))) → IsNew w short call (suc (length log))
-  new_before new position r =
-      let lt : r.before < length log = omega (arith, r.earlier, r.place) in
-      new position (record {
-        earlier = omega (arith, r.earlier, long_length);
-        before = r.before;
-        place = r.place;
-        first = r.first;
-        stands = sym (same_item r.before lt) ∙ r.stands;
-        committed = ap (verdict_of w long) r.place ∙ sym (same_verdict r.before lt) ∙ ap (verdict_of w short) (sym r.place) ∙ r.committed;
-        same = r.same;
-      })
+  new_before new = record {
+    not_before = new.not_before;
+    first = λ position r.
+        let lt : r.before < length log = omega (arith, r.earlier, r.place) in
+        new.first position (record {
+          earlier = omega (arith, r.earlier, long_length);
+          before = r.before;
+          place = r.place;
+          first = r.first;
+          stands = sym (same_item r.before lt) ∙ r.stands;
+          committed = ap (verdict_of w long) r.place ∙ sym (same_verdict r.before lt) ∙ ap (verdict_of w short) (sym r.place) ∙ r.committed;
+          same = r.same;
+        });
+  }
 
   conflict_behind : IsLog short → (position : ℕ) → IsConflict w short call position (suc (length log)) → IsConflict w long call position (suc (length (log ++ more)))
   conflict_behind is position c = record {
@@ -119,20 +122,20 @@ module _ (w : Setting) (log more : Log) (call : Call) (early : call.snapshot ≤
       (new_before facts.0, omega (arith, facts.1, long_length), λ position c. facts.2 position (conflict_behind is_short position c))
 
   -- and its run on the rows at the end of the shorter one writes what it writes on those of its snapshot
-  pub runs_alike : CommitMeans → RunsAlike → HasSafeProcedures w → IsLog short → IsLog long → AllFitLog w short → verdict_of w long (suc (length (log ++ more))) ≡ Some Commit
+  pub runs_alike : CommitMeans → RunsAlike → BeginsSafely w → IsLog short → IsLog long → AllFitLog w short → verdict_of w long (suc (length (log ++ more))) ≡ Some Commit
       → run_on w short call (rows_after w short (length log)) ≡ same_on (rows_after w short (length log)) (run_in w short call)
   runs_alike means alike safe is_short is_long fit commits =
       alike w short (length log) call safe is_short fit (last_there log (CallItem call)) (commits_before means is_short is_long commits)
 
 -- ---- what stands where a call commits
 
-never_by_default : (entries : List Entry) (reply : ℕ) (v : Option Verdict) → outcome_by entries outcome.Stale v ≡ outcome.Committed reply → ⊥
-never_by_default entries reply None e = absurd cc
-never_by_default entries reply (Some verdict.Commit) e = absurd cc
-never_by_default entries reply (Some (verdict.Conflict n)) e = absurd cc
-never_by_default entries reply (Some verdict.Stale) e = absurd cc
-never_by_default entries reply (Some (verdict.Repeated n)) e = absurd cc
-never_by_default entries reply (Some (verdict.Taken i)) e = absurd cc
+never_by_default : (replies : ℕ → ℕ) (reply : ℕ) (v : Option Verdict) → outcome_by replies outcome.Stale v ≡ outcome.Committed reply → ⊥
+never_by_default replies reply None e = absurd cc
+never_by_default replies reply (Some verdict.Commit) e = absurd cc
+never_by_default replies reply (Some (verdict.Conflict n)) e = absurd cc
+never_by_default replies reply (Some verdict.Stale) e = absurd cc
+never_by_default replies reply (Some (verdict.Repeated n)) e = absurd cc
+never_by_default replies reply (Some (verdict.Taken i)) e = absurd cc
 
 -- a call that commits is of a procedure that takes its arguments, and stands as its run says
 pub record Stands (w : Setting) (log : Log) (call : Call) (bytes : List ℕ) : Type 0 where
@@ -157,11 +160,11 @@ by_standing w log call bytes P nothing decided stands =
     pick true false true false ea eb et eu = nothing cause.Untrue
     pick true false true true ea eb et eu = stands (record { takes = et; is = eu; stands = λ i. tested w log call (ea i) (eb i) (et i) (eu i) })
 
-pub stands_by : (w : Setting) (log : Log) (call : Call) (bytes : List ℕ) (entries : List Entry) (v : Option Verdict) (reply : ℕ)
-    → outcome_of entries (call_standing w log call bytes) v ≡ outcome.Committed reply → Stands w log call bytes
-stands_by w log call bytes entries v reply =
-    by_standing w log call bytes (λ st. outcome_of entries st v ≡ outcome.Committed reply → Stands w log call bytes)
-    (λ c told. absurd cc) (λ early decided told. absurd (never_by_default entries reply v told)) (λ stands told. stands)
+pub stands_by : (w : Setting) (log : Log) (call : Call) (bytes : List ℕ) (replies : ℕ → ℕ) (v : Option Verdict) (reply : ℕ)
+    → outcome_of replies (call_standing w log call bytes) v ≡ outcome.Committed reply → Stands w log call bytes
+stands_by w log call bytes replies v reply =
+    by_standing w log call bytes (λ st. outcome_of replies st v ≡ outcome.Committed reply → Stands w log call bytes)
+    (λ c told. absurd cc) (λ early decided told. absurd (never_by_default replies reply v told)) (λ stands told. stands)
 
 -- ---- what is settled
 
@@ -205,12 +208,12 @@ by_admission w entries asked p P refused admitted = by_answer (admission asked.a
 settled_by : (w : Setting) (entries : List Entry) (asked : Asked) (p : StoredProcedure) → writes_something (run_in w (items_of entries) (asked_call (items_of entries) p asked)) ≡ true
     → IsSettled (answer_for w entries asked (Some p)) → ⊥
 settled_by w entries asked p writes =
-    by_admission w entries asked p (λ (answer : CallAnswer (List ℕ)). IsSettled answer → ⊥) (λ refusal settled. settled) (λ fits whole. by_run (first_repeated (history w log).certified (asked_call log p asked)))
+    by_admission w entries asked p (λ (answer : CallAnswer (List ℕ)). IsSettled answer → ⊥) (λ refusal settled. settled) (λ fits whole. by_run (first_repeated w.beginning.requests (history w log).certified (asked_call log p asked)))
   where
     log : Log
     log = items_of entries
 
-    by_run : (o : Option ℕ) → IsSettled (unless_repeated entries (answer_of_run w log (asked_call log p asked)) o) → ⊥
+    by_run : (o : Option ℕ) → IsSettled (unless_repeated (reply_to w entries asked.request) (answer_of_run w log (asked_call log p asked)) o) → ⊥
     by_run (Some position) h = h
     by_run None h =
         let run = run_in w log (asked_call log p asked) in
@@ -270,8 +273,8 @@ module _ (s : SiteSetting) (entries later : List Entry) (bytes : List ℕ) (call
   answered verdicts alike means lost more_fits next_fits are is_log are_bytes head number args early settled commits =
       let es = executed w (items_of all) call in
       let by = by_head s (items_of all) bytes call told head in
-      let st = stands_by w (items_of all) call bytes (with_bytes s all bytes) (verdict_of w (items_of (with_bytes s all bytes)) (length all + 1)) reply
-      (sym (ap (λ (x : Standing). outcome_of (with_bytes s all bytes) x (verdict_of w (items_of (with_bytes s all bytes)) (length all + 1))) by) ∙ commits) in
+      let st = stands_by w (items_of all) call bytes (replies_to s (with_bytes s all bytes) bytes) (verdict_of w (items_of (with_bytes s all bytes)) (length all + 1)) reply
+      (sym (ap (λ (x : Standing). outcome_of (replies_to s (with_bytes s all bytes) bytes) x (verdict_of w (items_of (with_bytes s all bytes)) (length all + 1))) by) ∙ commits) in
       let stands : standing s (items_of all) bytes ≡ StandsAs (CallEntry es) = by ∙ st.stands in
       let there = commits_there s all bytes verdicts es reply stands commits in
       let next : next_entry s all bytes ≡ CallEntry es = ap (entry_standing w (items_of all)) stands in
@@ -292,7 +295,7 @@ module _ (s : SiteSetting) (entries later : List Entry) (bytes : List ℕ) (call
       let fits : FitsLog w log (CallItem call) = subst (λ (ps : Catalogue). FitsProcedures ps call) grown fits_all in
       let fit_short = more_fits w log (CallItem call) are.log are.items early_log fits in
       -- its run
-      let run = runs_alike w log (items_of later) call early_log means alike are.procedures short_is long_is fit_short commit in
+      let run = runs_alike w log (items_of later) call early_log means alike are.begins short_is long_is fit_short commit in
       let (q, known_all) = known_by (procedure_of w (items_of all) call) call.args st.takes in
       let known : by_number (procedures_after w log call.snapshot) call.procedure ≡ Some q =
       ap (λ (ps : Catalogue). by_number ps call.procedure) (sym grown) ∙ known_all in

@@ -6,18 +6,18 @@ use Rattle.schema.specs.declared.limits.TheConstants.{MAX_ARGUMENTS}
 use Rattle.schema.specs.Schema.{AreTables}
 use Rattle.schema.specs.Rows.{Rows}
 use Rattle.log_model.specs.Log.{Catalogue, Setting, StoredProcedure, procedures_after, rows_after}
-use Rattle.log_model.specs.Fit.{HasSafeProcedures}
+use Rattle.log_model.specs.Fit.{BeginsSafely}
 use Rattle.site_model.specs.Standing.{SiteSetting}
 use Rattle.site_model.specs.Order.{Order, order_log}
 
--- tables of a schema, and procedures that are safe over them
+-- tables of a schema; it begins with procedures that are safe over them and with rows of them
 pub record IsSafeSetting (w : Setting) : Type 0 where
   pub tables : AreTables w.tables
-  pub procedures : HasSafeProcedures w
+  pub begins : BeginsSafely w
 
 -- no two procedures at first have a number in common
 abbrev pub HasDistinctNumbers : Setting → Type 0
-HasDistinctNumbers w = IsDistinct nat_eq (map (λ p. p.number) w.catalogue)
+HasDistinctNumbers w = IsDistinct nat_eq (map (λ p. p.number) w.beginning.procedures)
 
 -- its number fits its field, the length of its arguments is within the limit, and its program is one
 pub record FitsFields (p : StoredProcedure) : Type 0 where
@@ -29,7 +29,7 @@ pub record FitsFields (p : StoredProcedure) : Type 0 where
 pub record IsSiteSetting (w : Setting) : Type 0 where
   pub safe : IsSafeSetting w
   pub distinct : HasDistinctNumbers w
-  pub procedures : All FitsFields w.catalogue
+  pub procedures : All FitsFields w.beginning.procedures
 
 abbrev pub IsBytes : List ℕ → Type 0
 IsBytes bytes = All (λ b. b < 256) bytes

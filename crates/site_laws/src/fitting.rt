@@ -1,7 +1,6 @@
 //! Orders over the settings that sites have.
 
 ghost use Rattle.std.specs.Prelude.{◌≡◌, ◌≢◌, ℕ, ◌++◌, List, ◌∷◌, Some};
-ghost use Rattle.std.specs.FinMap.{empty};
 ghost use Rattle.log_model.specs.Log.{Call};
 ghost use Rattle.log_entry.specs.Head.{CallHead, head_of};
 ghost use Rattle.site_model.specs.declared.outcome.EntryOutcome.TheVariants.{Committed, Conflict, Stale};
@@ -47,11 +46,12 @@ pub fn orders_of_bytes_fit()
     what_stands_is_of_the_log();
 }
 
-/// The rows behind an order of byte strings, over safe settings, are those that its committed calls leave, run one at a
-/// time in order. The reply that is told of each call is that run's. Nothing is asked of whoever made the strings.
+/// The rows behind an order of byte strings are those that its committed calls leave, where the setting is safe. The
+/// calls run one at a time, in order, from the rows of the beginning. The reply that is told of each call is that
+/// run's. Nothing is asked of whoever made the strings.
 pub fn calls_run_one_at_a_time()
     ensures { (s : SiteSetting) (order : Order) → IsSafeSetting s.setting → IsOfBytes order
-        → RunInTurn s.setting (order_log s order) empty (committed_calls s order) (rows_behind s order) }
+        → RunInTurn s.setting (order_log s order) s.setting.beginning.rows (committed_calls s order) (rows_behind s order) }
 {
     // Laws:
     orders_grow();

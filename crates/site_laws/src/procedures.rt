@@ -18,7 +18,7 @@ use site_model::orders_grow;
 /// One more byte string adds one procedure, or leaves the procedures as they were. It adds a procedure exactly where it
 /// names one that is accepted, of a name and a number that none has. The outcome then tells of the addition.
 pub fn procedures_after_each_byte_string()
-    ensures first { (s : SiteSetting) → procedures_behind s [] ≡ s.setting.catalogue }
+    ensures first { (s : SiteSetting) → procedures_behind s [] ≡ s.setting.beginning.procedures }
     ensures told { (s : SiteSetting) (order : Order) (bytes : List ℕ) (number : ℕ)
         → (next_outcome s order bytes ≡ Added number)
         ↔ ((p : StoredProcedure) × AddsProcedure s order bytes p × (p.number ≡ number)) }

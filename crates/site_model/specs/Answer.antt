@@ -19,7 +19,7 @@ use Rattle.site_model.specs.declared.answer.AdditionAnswer.{AdditionAnswer}
 use Rattle.site_model.specs.declared.answer.AdditionAnswer.TheVariants as addition
 use Rattle.site_model.specs.declared.answer.AdditionRefusal.TheVariants as refusal
 use Rattle.site_model.specs.Standing.{SiteSetting, executed}
-use Rattle.site_model.specs.Order.{Order, order_entries, reply_at}
+use Rattle.site_model.specs.Order.{Order, order_entries, reply_to}
 
 -- ---- calls
 
@@ -44,16 +44,16 @@ answer_of_run w log call =
     unless_cancelled call.snapshot (run_in w log call) (entry_bytes (CallEntry (executed w log call)))
     (run_in w log call).cancel_code
 
-abbrev pub unless_repeated : List Entry → CallAnswer (List ℕ) → Option ℕ → CallAnswer (List ℕ)
-unless_repeated entries answer (Some position) = Repeated position (reply_at entries position)
-unless_repeated entries answer None = answer
+abbrev pub unless_repeated : (ℕ → ℕ) → CallAnswer (List ℕ) → Option ℕ → CallAnswer (List ℕ)
+unless_repeated replies answer (Some position) = Repeated position (replies position)
+unless_repeated replies answer None = answer
 
 -- by its admission
 abbrev pub answer_of_admission : Setting → List Entry → Asked → Result StoredProcedure CallRefusal → CallAnswer (List ℕ)
 answer_of_admission w entries asked (Err refusal) = Refused refusal
 answer_of_admission w entries asked (Ok p) =
-    unless_repeated entries (answer_of_run w (items_of entries) (asked_call (items_of entries) p asked))
-    (first_repeated (history w (items_of entries)).certified (asked_call (items_of entries) p asked))
+    unless_repeated (reply_to w entries asked.request) (answer_of_run w (items_of entries) (asked_call (items_of entries) p asked))
+    (first_repeated w.beginning.requests (history w (items_of entries)).certified (asked_call (items_of entries) p asked))
 
 abbrev pub answer_for : Setting → List Entry → Asked → Option StoredProcedure → CallAnswer (List ℕ)
 answer_for w entries asked p = answer_of_admission w entries asked (admission asked.args asked.request p)

@@ -1,13 +1,14 @@
 -- The log of an order of byte strings, and what a site says of each of them (this product's own rules).
-use Rattle.std.specs.Prelude.{ℕ, zero, suc, ◌+◌, ◌-◌, nat_le, if◌then◌else◌, List, [], ◌∷◌, ◌++◌, length, slice_get, Option, Some, None}
+use Rattle.std.specs.Prelude.{ℕ, zero, suc, ◌+◌, nat_le, if◌then◌else◌, List, [], ◌∷◌, ◌++◌, length, slice_get, Option, Some, None}
 use Rattle.std.specs.List.{fold}
+use Rattle.std.specs.Option.{unwrap_or}
 use Rattle.std.specs.FinMap.{empty}
 use Rattle.log_model.specs.declared.request.RequestId.{RequestId}
 use Rattle.log_model.specs.declared.verdict.Verdict.{Verdict}
 use Rattle.log_model.specs.declared.verdict.Verdict.TheVariants as verdict
-use Rattle.log_model.specs.Log.{Catalogue, Setting, Call, Log, procedures_after, verdict_of}
+use Rattle.log_model.specs.Log.{Catalogue, Setting, reply_done, Call, Log, procedures_after, verdict_of}
 use Rattle.log_model.specs.Entries.{Entry, CallEntry, AdditionEntry, items_of}
-use Rattle.log_entry.specs.Head.{Head, CallHead}
+use Rattle.log_entry.specs.Head.{Head, CallHead, head_of}
 use Rattle.site_model.specs.declared.outcome.EntryOutcome.{EntryOutcome}
 use Rattle.site_model.specs.declared.outcome.EntryOutcome.TheVariants as outcome
 use Rattle.site_model.specs.Standing.{SiteSetting, Standing, StandsAs, IsDecided, IsNothing, standing}
@@ -59,17 +60,23 @@ abbrev pub reply_in : Option Entry → ℕ
 reply_in (Some (CallEntry e)) = e.reply
 reply_in _ = 0
 
--- the reply of the call at a position
+-- the reply of the call at a position, from 1 on
 abbrev pub reply_at : List Entry → ℕ → ℕ
-reply_at entries position = reply_in (slice_get entries (position - 1))
+reply_at entries zero = 0
+reply_at entries (suc before) = reply_in (slice_get entries before)
 
--- by the verdict, where it commits this
-abbrev pub outcome_by : List Entry → EntryOutcome → Option Verdict → EntryOutcome
-outcome_by entries committed (Some (verdict.Conflict position)) = outcome.Conflict position
-outcome_by entries committed (Some verdict.Stale) = outcome.Stale
-outcome_by entries committed (Some (verdict.Repeated position)) = outcome.Repeated position (reply_at entries position)
-outcome_by entries committed (Some (verdict.Taken identifier)) = outcome.Taken identifier
-outcome_by entries committed _ = committed
+-- the reply to a request that was done at this position: before the order, which is 0, or by a call of these entries
+abbrev pub reply_to : Setting → List Entry → Option RequestId → ℕ → ℕ
+reply_to w entries request zero = unwrap_or (reply_done w.beginning.requests request) 0
+reply_to w entries request (suc before) = reply_at entries (suc before)
+
+-- by the verdict, where it commits this; a repeated call has the reply of the position at which its request was done
+abbrev pub outcome_by : (ℕ → ℕ) → EntryOutcome → Option Verdict → EntryOutcome
+outcome_by replies committed (Some (verdict.Conflict position)) = outcome.Conflict position
+outcome_by replies committed (Some verdict.Stale) = outcome.Stale
+outcome_by replies committed (Some (verdict.Repeated position)) = outcome.Repeated position (replies position)
+outcome_by replies committed (Some (verdict.Taken identifier)) = outcome.Taken identifier
+outcome_by replies committed _ = committed
 
 abbrev pub committed_outcome : Entry → EntryOutcome
 committed_outcome (CallEntry e) = outcome.Committed e.reply
@@ -77,22 +84,26 @@ committed_outcome (AdditionEntry p) = outcome.Added p.number
 
 -- what becomes of what stands at the last of these positions, by the verdict on it, which of a call that is decided is
 -- that it is repeated or stale
-abbrev pub outcome_of : List Entry → Standing → Option Verdict → EntryOutcome
-outcome_of entries (StandsAs e) v = outcome_by entries (committed_outcome e) v
-outcome_of entries (IsDecided call) v = outcome_by entries outcome.Stale v
-outcome_of entries (IsNothing cause) v = outcome.Nothing cause
-
--- what becomes of the bytes behind these entries
-abbrev pub outcome_behind : SiteSetting → List Entry → List ℕ → EntryOutcome
-outcome_behind s entries bytes =
-    outcome_of (with_bytes s entries bytes) (standing s (items_of entries) bytes)
-    (verdict_of s.setting (items_of (with_bytes s entries bytes)) (length entries + 1))
-
--- and behind an order
-abbrev pub next_outcome : SiteSetting → Order → List ℕ → EntryOutcome
-next_outcome s order bytes = outcome_behind s (order_entries s order) bytes
+abbrev pub outcome_of : (ℕ → ℕ) → Standing → Option Verdict → EntryOutcome
+outcome_of replies (StandsAs e) v = outcome_by replies (committed_outcome e) v
+outcome_of replies (IsDecided call) v = outcome_by replies outcome.Stale v
+outcome_of replies (IsNothing cause) v = outcome.Nothing cause
 
 -- the request that bytes carry, where they are a call
 abbrev pub request_in : Option Head → Option RequestId
 request_in (Some (CallHead call reply)) = call.request
 request_in _ = None
+
+-- the replies to the request that bytes carry, of these entries
+abbrev pub replies_to : SiteSetting → List Entry → List ℕ → ℕ → ℕ
+replies_to s entries bytes = reply_to s.setting entries (request_in (head_of bytes))
+
+-- what becomes of the bytes behind these entries
+abbrev pub outcome_behind : SiteSetting → List Entry → List ℕ → EntryOutcome
+outcome_behind s entries bytes =
+    outcome_of (replies_to s (with_bytes s entries bytes) bytes) (standing s (items_of entries) bytes)
+    (verdict_of s.setting (items_of (with_bytes s entries bytes)) (length entries + 1))
+
+-- and behind an order
+abbrev pub next_outcome : SiteSetting → Order → List ℕ → EntryOutcome
+next_outcome s order bytes = outcome_behind s (order_entries s order) bytes

@@ -36,10 +36,10 @@ executed w log call = record {
   reply = (run_in w log call).reply;
 }
 
--- a committed call carries its request, or more items than the window were ordered since its snapshot
+-- its request was done, or more items than the window were ordered since its snapshot
 abbrev pub is_decided : Setting → Log → Call → Bool
 is_decided w log call =
-    is_some (first_repeated (history w log).certified call) || not (nat_le (length log - call.snapshot) w.window)
+    is_some (first_repeated w.beginning.requests (history w log).certified call) || not (nat_le (length log - call.snapshot) w.window)
 
 abbrev pub takes_arguments : Option StoredProcedure → List ℕ → Bool
 takes_arguments None args = false

@@ -8,7 +8,7 @@ use program_checks::ProgramFault;
 pub enum CallAnswer<E> {
     /// The call can't run.
     Refused(CallRefusal),
-    /// The committed call at this position carries the same request, and gave this reply.
+    /// The request was done at this position, by the committed call there or at 0 before the order, with this reply.
     Repeated { position: u32, reply: u64 },
     /// The call cancelled on the rows at this position, with this code.
     Cancelled { position: u32, code: u64 },

@@ -42,10 +42,10 @@ pub fn fit_entries_go_on()
     ensures next { (w : Setting) (entries : List Entry) (e : Entry) → AreFitEntries w entries
         → AreFitEntries w (entries ++ e ∷ [])
         → verdict_of w (items_of (entries ++ e ∷ [])) (length entries + 1)
-        ≡ Some (certified_entry w.window (certified_entries_of w.window w.catalogue entries) e).verdict }
+        ≡ Some (certified_entry w.window (certified_entries_of w.window w.beginning entries) e).verdict }
     ensures rows { (w : Setting) (entries : List Entry) (position : ℕ) → AreFitEntries w entries
         → position ≤ length entries
-        → map_after (installed_from 1 (certified_entries_of w.window w.catalogue entries).certified) position
+        → map_after w.beginning.rows (installed_from 1 (certified_entries_of w.window w.beginning entries).certified) position
         ≡ rows_after w (items_of entries) position }
 {
     // Laws:

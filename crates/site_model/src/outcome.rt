@@ -13,7 +13,7 @@ pub enum EntryOutcome {
     Conflict(u32),
     /// The call's snapshot is too old.
     Stale,
-    /// The committed call at this position carries the same request, and gave this reply.
+    /// The request was done at this position, by the committed call there or at 0 before the order, with this reply.
     Repeated { position: u32, reply: u64 },
     /// The procedure of this number is added.
     Added(u16),

@@ -6,7 +6,7 @@ ghost use Rattle.log_model.specs.declared.verdict.Verdict.TheVariants.{Commit};
 ghost use Rattle.dsm_model.specs.declared.outcome.Outcome.{Outcome};
 ghost use Rattle.dsm_model.specs.declared.outcome.Outcome.TheVariants.{Exit, Ordered, Delivered};
 ghost use Rattle.log_model.specs.Log.{Setting, verdict_of};
-ghost use Rattle.log_model.specs.Fit.{HasSafeProcedures};
+ghost use Rattle.log_model.specs.Fit.{BeginsSafely};
 ghost use Rattle.dsm_model.specs.World.{World, Step, Turn, Order, first_world, open_call, IsStep, AreSteps};
 ghost use Rattle.log_model.specs.OpenCall.{OpenCall};
 ghost use Rattle.dsm_model.specs.Sound.{IsWorld, IsSound, IsSerialReply, IsGiven, AreGiven};
@@ -28,7 +28,7 @@ pub fn steps_keep_a_world()
 /// has. After as many as the path has, its run has ended with the reply of the run on the rows of its snapshot.
 pub fn open_calls_are_sound()
     ensures { (w : Setting) (world : World) (c : ℕ) (o : OpenCall)
-        → HasSafeProcedures w → IsWorld w world → open_call world c ≡ Some o → IsSound w world.log o }
+        → BeginsSafely w → IsWorld w world → open_call world c ≡ Some o → IsSound w world.log o }
 {}
 
 /// The reply that Exit answered, where the call is then ordered and commits, is the reply of its run on the rows just
@@ -36,7 +36,7 @@ pub fn open_calls_are_sound()
 pub fn replies_are_serial()
     ensures { (w : Setting) (before : World) (steps : List Step) (outcomes : List Outcome)
         (after : World) (c i j position reply : ℕ)
-        → HasSafeProcedures w → AreGiven w steps outcomes → IsWorld w before
+        → BeginsSafely w → AreGiven w steps outcomes → IsWorld w before
         → AreSteps w before steps outcomes after
         → slice_get steps i ≡ Some (Turn c) → slice_get outcomes i ≡ Some (Exit reply)
         → slice_get steps j ≡ Some (Order c) → slice_get outcomes j ≡ Some (Ordered position)

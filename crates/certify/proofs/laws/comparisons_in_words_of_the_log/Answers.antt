@@ -5,4 +5,4 @@ pub returns-clause-rising : goal.returns-clause-rising
 returns-clause-rising c = comparisons_rise
 
 pub returns-clause-compared : goal.returns-clause-compared
-returns-clause-compared c a b x y z = (compared_if a b x y z, if_compared a b x y z)
+returns-clause-compared c a d b x y z = (compared_if a d b x y z, if_compared a d b x y z)

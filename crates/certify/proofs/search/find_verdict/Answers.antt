@@ -7,12 +7,12 @@ use Rattle.certify.proofs.search.find_verdict.Given as given
 use Rattle.certify.proofs.search.find_verdict.Goals as goal
 
 pub returns-then-count-snapshot-clause-verdict : goal.returns-then-count-snapshot-clause-verdict
-returns-then-count-snapshot-clause-verdict g c = λ past call same new stands.
-    stale c.args.window c.args.count c.args.snapshot past call c.args.reads.now same new stands.count c.if-count-snapshot.true
+returns-then-count-snapshot-clause-verdict g c = λ done past call same new stands.
+    stale c.args.window c.args.count c.args.snapshot done past call c.args.reads.now same new stands.count c.if-count-snapshot.true
 
 pub returns-then-count-snapshot-clause-compared : goal.returns-then-count-snapshot-clause-compared
-returns-then-count-snapshot-clause-compared g c = λ past call same new stands.
-    none_compared c.args.window c.args.count c.args.snapshot past call c.args.reads.now same new stands.count c.if-count-snapshot.true
+returns-then-count-snapshot-clause-compared g c = λ done past call same new stands.
+    none_compared c.args.window c.args.count c.args.snapshot done past call c.args.reads.now same new stands.count c.if-count-snapshot.true
 
 found-in-Some : (g : given.Over) → (c : goal.In-Some g) → (past : List CertifiedItem)
     → IsMemoryOfLatest (record { window = c.args.window; count = c.args.count; ring = record { blocks = c.args.blocks.now; writes = c.args.kept.now } }) past
@@ -24,19 +24,19 @@ found-in-Some g c past stands =
     stands c.requires.enough c.requires.snapshot near c.search_since-found.ensures
 
 pub returns-in-Some-clause-verdict : goal.returns-in-Some-clause-verdict
-returns-in-Some-clause-verdict g c = λ past call same new stands.
+returns-in-Some-clause-verdict g c = λ done past call same new stands.
     let count = stands.count in
     let test = c.if-count-snapshot.false in
     ap unless_conflict (sym c.in-Some.is)
     ∙ ap (λ (r : SearchResult). unless_conflict r.conflict) (found-in-Some g c past stands)
-    ∙ verdict_of_search c.args.window c.args.snapshot past call c.args.reads.now same new (omega arith)
+    ∙ verdict_of_search c.args.window c.args.snapshot done past call c.args.reads.now same new (omega arith)
 
 pub returns-in-Some-clause-compared : goal.returns-in-Some-clause-compared
-returns-in-Some-clause-compared g c = λ past call same new stands.
+returns-in-Some-clause-compared g c = λ done past call same new stands.
     let count = stands.count in
     let test = c.if-count-snapshot.false in
     ap (λ (r : SearchResult). r.compared) (found-in-Some g c past stands)
-    ∙ compared_of_search c.args.window c.args.snapshot past call c.args.reads.now same new (omega arith)
+    ∙ compared_of_search c.args.window c.args.snapshot done past call c.args.reads.now same new (omega arith)
 
 found-in-None : (g : given.Over) → (c : goal.In-None g) → (past : List CertifiedItem)
     → IsMemoryOfLatest (record { window = c.args.window; count = c.args.count; ring = record { blocks = c.args.blocks.now; writes = c.args.kept.now } }) past
@@ -48,16 +48,16 @@ found-in-None g c past stands =
     stands c.requires.enough c.requires.snapshot near c.search_since-found.ensures
 
 pub returns-in-None-clause-verdict : goal.returns-in-None-clause-verdict
-returns-in-None-clause-verdict g c = λ past call same new stands.
+returns-in-None-clause-verdict g c = λ done past call same new stands.
     let count = stands.count in
     let test = c.if-count-snapshot.false in
     ap unless_conflict (sym c.in-None.is)
     ∙ ap (λ (r : SearchResult). unless_conflict r.conflict) (found-in-None g c past stands)
-    ∙ verdict_of_search c.args.window c.args.snapshot past call c.args.reads.now same new (omega arith)
+    ∙ verdict_of_search c.args.window c.args.snapshot done past call c.args.reads.now same new (omega arith)
 
 pub returns-in-None-clause-compared : goal.returns-in-None-clause-compared
-returns-in-None-clause-compared g c = λ past call same new stands.
+returns-in-None-clause-compared g c = λ done past call same new stands.
     let count = stands.count in
     let test = c.if-count-snapshot.false in
     ap (λ (r : SearchResult). r.compared) (found-in-None g c past stands)
-    ∙ compared_of_search c.args.window c.args.snapshot past call c.args.reads.now same new (omega arith)
+    ∙ compared_of_search c.args.window c.args.snapshot done past call c.args.reads.now same new (omega arith)

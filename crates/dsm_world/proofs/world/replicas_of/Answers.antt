@@ -1,3 +1,4 @@
+use Rattle.catalogue.specs.Catalogue.{beginning_of}
 use Rattle.std.proofs.Common.{false, ◌≡◌, List, [], ◌∷◌, length, slice_get, sym, ap, ◌∙◌, arith}
 use Rattle.std.proofs.lemmas.List.{length-append}
 use Rattle.replica.specs.Replica.{Replica}
@@ -25,5 +26,5 @@ loop-preserved g c =
       each = one_more_replica (λ r. IsReplicaOf c.args.catalogue.now c.args.window [] r) c.loop.replicas.items c.push.new.self.items new more
           (first_replica c.args.catalogue.now c.args.window new (c.catalogues_are_safe.ensures c.args.window)
           (record { delivered = stands; window = c.in_ok-new.ensures.window; tables = c.in_ok-new.ensures.tables; procedures = c.in_ok-new.ensures.for_tables })) c.loop.invariant.each;
-      fresh = one_more_replica (λ r. progress_of r ≡ record { position = 0; stopped = false }) c.loop.replicas.items c.push.new.self.items new more (first_progress c.args.catalogue.now.procedures new stands c.in_ok-new.ensures.running) c.loop.invariant.fresh;
+      fresh = one_more_replica (λ r. progress_of r ≡ record { position = 0; stopped = false }) c.loop.replicas.items c.push.new.self.items new more (first_progress (beginning_of c.args.catalogue.now) new stands c.in_ok-new.ensures.running) c.loop.invariant.fresh;
     }

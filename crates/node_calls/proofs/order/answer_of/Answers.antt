@@ -1,4 +1,4 @@
-use Rattle.std.proofs.Common.{inl}
+use Rattle.std.proofs.Common.{inl, inr}
 use Rattle.log_model.specs.declared.verdict.Verdict.{Verdict}
 use Rattle.log_model.specs.declared.verdict.Verdict.TheVariants.{Commit, Conflict, Stale, Repeated}
 use Rattle.std.proofs.Common.{length, subst}
@@ -15,19 +15,19 @@ unreachable-requires g c =
 pub reply_at-requires-clause-from : goal.reply_at-requires-clause-from
 reply_at-requires-clause-from g c =
     let (e, appended) = c.requires.appended in
-    (repeated g.J.LogSetting.setting e c.args.position c.args.seen.now (λ log d call earlier is_log at is. (c.verdicts_in_words_of_the_log.ensures.repeated g.J.LogSetting.setting log d call earlier is_log at).0 is) c.in-Repeated.earlier appended
+    (repeated g.J.LogSetting.setting e c.args.position c.args.seen.now (λ log d call earlier is_log at is. (c.verdicts_in_words_of_the_log.ensures.repeated g.J.LogSetting.setting log d call earlier is_log at).0 is) c.in-Repeated.earlier c.requires.none_before appended
     (subst (λ (v : Verdict). IsVerdict g.J.LogSetting.setting (length c.args.seen.now) c.args.seen.now v) c.in-Repeated.is c.requires.known)).0
 
 pub reply_at-requires-clause-to : goal.reply_at-requires-clause-to
 reply_at-requires-clause-to g c =
     let (e, appended) = c.requires.appended in
-    (repeated g.J.LogSetting.setting e c.args.position c.args.seen.now (λ log d call earlier is_log at is. (c.verdicts_in_words_of_the_log.ensures.repeated g.J.LogSetting.setting log d call earlier is_log at).0 is) c.in-Repeated.earlier appended
+    (repeated g.J.LogSetting.setting e c.args.position c.args.seen.now (λ log d call earlier is_log at is. (c.verdicts_in_words_of_the_log.ensures.repeated g.J.LogSetting.setting log d call earlier is_log at).0 is) c.in-Repeated.earlier c.requires.none_before appended
     (subst (λ (v : Verdict). IsVerdict g.J.LogSetting.setting (length c.args.seen.now) c.args.seen.now v) c.in-Repeated.is c.requires.known)).1
 
 pub reply_at-requires-clause-call : goal.reply_at-requires-clause-call
 reply_at-requires-clause-call g c =
     let (e, appended) = c.requires.appended in
-    (repeated g.J.LogSetting.setting e c.args.position c.args.seen.now (λ log d call earlier is_log at is. (c.verdicts_in_words_of_the_log.ensures.repeated g.J.LogSetting.setting log d call earlier is_log at).0 is) c.in-Repeated.earlier appended
+    (repeated g.J.LogSetting.setting e c.args.position c.args.seen.now (λ log d call earlier is_log at is. (c.verdicts_in_words_of_the_log.ensures.repeated g.J.LogSetting.setting log d call earlier is_log at).0 is) c.in-Repeated.earlier c.requires.none_before appended
     (subst (λ (v : Verdict). IsVerdict g.J.LogSetting.setting (length c.args.seen.now) c.args.seen.now v) c.in-Repeated.is c.requires.known)).2
 
 pub returns-in-Commit : goal.returns-in-Commit
@@ -54,5 +54,5 @@ pub returns-in-Repeated : goal.returns-in-Repeated
 returns-in-Repeated g c = λ a e appended call least replied whole. (
   ordered_at g.J.LogSetting.setting a e c.args.position c.args.seen.now appended call least whole,
   verdict_here g.J.LogSetting.setting e c.args.position c.args.seen.now (Repeated c.in-Repeated.earlier) appended (subst (λ (v : Verdict). IsVerdict g.J.LogSetting.setting (length c.args.seen.now) c.args.seen.now v) c.in-Repeated.is c.requires.known),
-  c.reply_at.ensures,
+  inr c.reply_at.ensures,
 )

@@ -1,4 +1,4 @@
-use Rattle.std.proofs.Common.{Some, ap, ◌∙◌}
+use Rattle.std.proofs.Common.{◌-◌, Some, ap, ◌∙◌, arith}
 use Rattle.log_model.specs.Entries.{ExecutedCall}
 use Rattle.log_entry.specs.declared.entry.Entry.{Entry as LogEntry}
 use Rattle.node_calls.proofs.AnswerLemmas.{no_call}
@@ -9,6 +9,8 @@ unreachable-requires g c = no_call c.args.seen.now _ c.entry.result.now c.in-Add
 
 pub returns : goal.returns
 returns g c = record {
+  before = c.args.position - 1;
+  place = (let from = c.requires.from in omega arith);
   e = c.in-Call.call;
   stands = c.entry.ensures ∙ ap (λ (e : LogEntry g.row.P.Denot). Some e) c.in-Call.is;
   replied = ap (λ (e : ExecutedCall). e.reply) c.call.view_is;

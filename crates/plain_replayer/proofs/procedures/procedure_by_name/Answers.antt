@@ -5,7 +5,7 @@ use Rattle.plain_replayer.proofs.ProcedureLemmas.{in_first, in_second}
 use Rattle.plain_replayer.proofs.procedures.procedure_by_name.Goals as goal
 
 pub returns-in-Some : goal.returns-in-Some
-returns-in-Some g c = in_first (λ (p : StoredProcedure). bytes_eq p.name c.args.name.now) c.args.setting.now.catalogue (added_from c.args.log.now 0 c.args.reports.now) c.in-Some.procedure.now c.in-Some.ensures
+returns-in-Some g c = in_first (λ (p : StoredProcedure). bytes_eq p.name c.args.name.now) c.args.setting.now.beginning.procedures (added_from c.args.log.now 0 c.args.reports.now) c.in-Some.procedure.now c.in-Some.ensures
 
 pub returns-in-None : goal.returns-in-None
-returns-in-None g c = in_second (λ (p : StoredProcedure). bytes_eq p.name c.args.name.now) c.args.setting.now.catalogue (added_from c.args.log.now 0 c.args.reports.now) _ c.in-None.ensures c.added_by_name.ensures
+returns-in-None g c = in_second (λ (p : StoredProcedure). bytes_eq p.name c.args.name.now) c.args.setting.now.beginning.procedures (added_from c.args.log.now 0 c.args.reports.now) _ c.in-None.ensures c.added_by_name.ensures

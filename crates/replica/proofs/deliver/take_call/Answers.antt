@@ -8,24 +8,24 @@ use Rattle.rows_mv.specs.Versions.{IsInstalled}
 use Rattle.replica.proofs.deliver.take_call.Goals as goal
 
 pub returns-clause-certified : goal.returns-clause-certified
-returns-clause-certified g c past stands =
+returns-clause-certified g c done past stands =
     let call = c.args.call.now in
     let before = c.args.certifier.now.memory in
     let request = ap (λ (e : ExecutedCall). e.call.request) (sym c.call.view_is) in
     let snapshot = ap (λ (e : ExecutedCall). e.call.snapshot) (sym c.call.view_is) in
     λ i. record {
-      verdict = (c.verdict-verdict.ensures.verdict past call.call stands request snapshot ∙ ap (λ (e : ExecutedCall). verdict_after before.window past call.call e.looks) c.call.view_is) i;
-      compared = (c.compared.ensures ∙ c.verdict-verdict.ensures.compared past call.call stands request snapshot ∙ ap (λ (e : ExecutedCall). length (comparisons_after before.window past call.call e.looks)) c.call.view_is) i;
+      verdict = (c.verdict-verdict.ensures.verdict done past call.call stands request snapshot ∙ ap (λ (e : ExecutedCall). verdict_after before.window done past call.call e.looks) c.call.view_is) i;
+      compared = (c.compared.ensures ∙ c.verdict-verdict.ensures.compared done past call.call stands request snapshot ∙ ap (λ (e : ExecutedCall). length (comparisons_after before.window done past call.call e.looks)) c.call.view_is) i;
     }
 
 pub returns-clause-memory : goal.returns-clause-memory
-returns-clause-memory g c past stands =
+returns-clause-memory g c done past stands =
     let call = c.args.call.now in
     let before = c.args.certifier.now.memory in
-    c.keep.ensures.stands past (certified_call_after before.window past call.call call.looks call.writes)
-    (subst (λ memory. IsMemoryOf memory past) (sym (c.in_ok-prepared.ensures.memory ∙ c.verdict-verdict.ensures.memory)) stands)
-    (ap (λ (e : ExecutedCall). verdict_after before.window past call.call e.looks) (sym c.call.view_is)
-    ∙ sym (c.verdict-verdict.ensures.verdict past call.call stands (ap (λ (e : ExecutedCall). e.call.request) (sym c.call.view_is)) (ap (λ (e : ExecutedCall). e.call.snapshot) (sym c.call.view_is))))
+    c.keep.ensures.stands done past (certified_call_after before.window done past call.call call.looks call.writes)
+    (subst (λ memory. IsMemoryOf memory done past) (sym (c.in_ok-prepared.ensures.memory ∙ c.verdict-verdict.ensures.memory)) stands)
+    (ap (λ (e : ExecutedCall). verdict_after before.window done past call.call e.looks) (sym c.call.view_is)
+    ∙ sym (c.verdict-verdict.ensures.verdict done past call.call stands (ap (λ (e : ExecutedCall). e.call.request) (sym c.call.view_is)) (ap (λ (e : ExecutedCall). e.call.snapshot) (sym c.call.view_is))))
     (ap (λ (e : ExecutedCall). e.call.request) (sym c.call.view_is) ∙ sym c.in_ok-prepared.ensures.request)
     (subst (λ (e : ExecutedCall). IsPreparedOf c.in_ok-prepared.prepared e.writes) c.call.view_is c.in_ok-prepared.ensures.keys)
 

@@ -5,6 +5,7 @@ use Rattle.schema.specs.Rows.{AreWrites}
 use Rattle.log_entry.specs.Kind.{entry_of}
 use Rattle.log_model.specs.Log.{IsPlaced}
 use Rattle.log_model.specs.Entries.{item_of}
+use Rattle.catalogue.specs.Catalogue.{beginning_of}
 use Rattle.replica.specs.Replica.{StandsFor, IsForTables, IsNamed, entries_of, writes_in}
 use Rattle.replica.proofs.FitLemmas.{placed_in_code}
 use Rattle.replica.proofs.rebuild.replica_of.Goals as goal
@@ -40,9 +41,9 @@ pub loop-entry-preserved : goal.loop-entry-preserved
 loop-entry-preserved g c =
     let before = take c.loop-entry.entry-index c.args.entries.now in
     record {
-      stands = subst (StandsFor c.args.catalogue.now.procedures c.deliver.new.self)
+      stands = subst (StandsFor (beginning_of c.args.catalogue.now) c.deliver.new.self)
           (sym (map-append entry_of before (c.entry-item.result ∷ [])) ∙ ap (λ e. entries_of (before ++ e ∷ [])) c.entry-item.is ∙ ap entries_of (sym (take_more c.args.entries.now c.loop-entry.entry-index c.entry-item.result c.loop-entry-test.true)))
-          (c.in-Ok.ensures.delivered.stands c.args.catalogue.now.procedures (entries_of before) c.loop-entry.invariant.stands);
+          (c.in-Ok.ensures.delivered.stands (beginning_of c.args.catalogue.now) (entries_of before) c.loop-entry.invariant.stands);
       position = c.in-Ok.ensures.delivered.position ∙ ap (λ (n : ℕ). n + 1) c.loop-entry.invariant.position;
       window = c.deliver.ensures.same_tables.window ∙ c.loop-entry.invariant.window;
       running = c.in-Ok.ensures.delivered.running;
@@ -53,4 +54,4 @@ loop-entry-preserved g c =
 
 pub returns-clause-stands : goal.returns-clause-stands
 returns-clause-stands g c =
-    subst (λ es. StandsFor c.args.catalogue.now.procedures c.loop-entry.replica (entries_of es)) (take_all c.loop-entry.entry-index c.args.entries.now c.loop-entry-test.false) c.loop-entry.invariant.stands
+    subst (λ es. StandsFor (beginning_of c.args.catalogue.now) c.loop-entry.replica (entries_of es)) (take_all c.loop-entry.entry-index c.args.entries.now c.loop-entry-test.false) c.loop-entry.invariant.stands

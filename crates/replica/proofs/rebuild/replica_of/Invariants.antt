@@ -1,12 +1,13 @@
 use Rattle.std.proofs.Common.{◌≡◌, false, take}
 use Rattle.rows_mv.specs.Versions.{HaveTables}
 use Rattle.catalogue.specs.Stored.{AreForTables}
+use Rattle.catalogue.specs.Catalogue.{beginning_of}
 use Rattle.replica.specs.Replica.{StandsFor, entries_of}
 use Rattle.replica.proofs.rebuild.replica_of.Given as goal
 
 abbrev pub invariant-loop-entry : goal.invariant-loop-entry
 invariant-loop-entry g l = record {
-  stands : StandsFor l.catalogue.procedures l.replica (entries_of (take l.entry-index l.entries));
+  stands : StandsFor (beginning_of l.catalogue) l.replica (entries_of (take l.entry-index l.entries));
   position : l.replica.position ≡ l.entry-index;
   window : l.replica.window ≡ l.window;
   running : l.replica.stopped ≡ false;

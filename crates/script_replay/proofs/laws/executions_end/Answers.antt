@@ -11,7 +11,7 @@ returns g c = λ call text after does.
     let known = c.keeps_what_was_delivered.ensures in
     execution_ends w (record {
       keeps = c.steps_keep_a_world.ensures.step w;
-      sound = λ world n o is e. c.open_calls_are_sound.ensures w world n o known.procedures is e;
+      sound = λ world n o is e. c.open_calls_are_sound.ensures w world n o known.begins is e;
       more = c.turns_follow_the_run.ensures.more w;
       kept = c.procedures_are_never_lost.ensures w;
     }) (world_of s) call text after known.world

@@ -8,6 +8,7 @@ use Rattle.report.specs.declared.printed.LoggedEntry.{LoggedEntry}
 use Rattle.report.specs.declared.printed.Line.TheVariants as line
 use Rattle.report.specs.Lines.{line_text}
 use Rattle.log_entry.specs.Kind.{entry_of}
+use Rattle.catalogue.specs.Catalogue.{beginning_of}
 use Rattle.script_replay.specs.Printed.{logged_entry}
 use Rattle.dsm_world.proofs.RowLemmas.{position_within}
 use Rattle.script_replay.proofs.PrintedLemmas.{HasLogVerdict, stands_there}
@@ -35,7 +36,7 @@ returns g c = λ item there.
     let keeps = c.keeps_what_was_delivered.ensures.replicas (suc f.place) r f.stands in
     let within = position_within s r keeps in
     let delivered : before < r.position = ltb-true before r.position f.has in
-    let base = s.catalogue.procedures in
+    let base = beginning_of s.catalogue in
     let past = take r.position s.entries in
     let same : before + 1 - 1 ≡ before = omega arith in
     let stands = stands_there s r before e keeps within delivered at in

@@ -18,7 +18,7 @@ put_each-requires g c =
 pub returns-in_err-rows-clause-given : goal.returns-in_err-rows-clause-given
 returns-in_err-rows-clause-given g c =
     let known = c.keeps_what_was_delivered.ensures in
-    let keys = keys_there c.args.world.now c.args.replica c.position-position.result c.in-Some.kept.now c.in-Some.ensures c.position-position.ensures c.rows_fit_the_schema.ensures known.procedures known.world known.catalogue.tables in
+    let keys = keys_there c.args.world.now c.args.replica c.position-position.result c.in-Some.kept.now c.in-Some.ensures c.position-position.ensures c.rows_fit_the_schema.ensures known.begins known.world known.catalogue.tables in
     let given = c.in_err-rows.ensures.given (rows_after (setting_of c.args.world.now) (world_of c.args.world.now).log c.position-position.result) c.in-Some-at.ensures.rows keys in
     let q = err_from_is_err_and c.from_residual.result c.from_residual.ensures.1 in
     rw q.1 (subst (PassesBeginning g.W.Write.contents c.args.output.now c.put_each.new.output) (sym (text_there c.args.world.now c.args.replica c.position-position.result c.in-Some.kept.now c.in-Some.ensures c.position-position.ensures))
@@ -27,7 +27,7 @@ returns-in_err-rows-clause-given g c =
 pub returns-clause-given : goal.returns-clause-given
 returns-clause-given g c =
     let known = c.keeps_what_was_delivered.ensures in
-    let keys = keys_there c.args.world.now c.args.replica c.position-position.result c.in-Some.kept.now c.in-Some.ensures c.position-position.ensures c.rows_fit_the_schema.ensures known.procedures known.world known.catalogue.tables in
+    let keys = keys_there c.args.world.now c.args.replica c.position-position.result c.in-Some.kept.now c.in-Some.ensures c.position-position.ensures c.rows_fit_the_schema.ensures known.begins known.world known.catalogue.tables in
     let given = c.in_ok-rows.ensures.given (rows_after (setting_of c.args.world.now) (world_of c.args.world.now).log c.position-position.result) c.in-Some-at.ensures.rows keys in
     let last = ap (λ n. line_text (line.Replica c.args.replica (report.Rows c.position-position.result n))) given.0 in
     subst (Gives g.W.Write.contents c.args.output.now c.put_line-2.new.output c.put_line-2.result) (sym (text_there c.args.world.now c.args.replica c.position-position.result c.in-Some.kept.now c.in-Some.ensures c.position-position.ensures))

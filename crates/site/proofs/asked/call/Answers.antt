@@ -11,6 +11,7 @@ use Rattle.site.specs.Run.{CanRun}
 use Rattle.site.specs.Replica.{setting_of}
 use Rattle.site.proofs.SiteLemmas.{can_run}
 use Rattle.site.specs.Answered.{asked_of}
+use Rattle.site.proofs.TakeLemmas.{same_replies}
 use Rattle.site.proofs.CallLemmas.{answer_of_run-takes_memory, on_err, no_procedure, refused_call, repeated_call, run_call, none_found_in, found_in, same_call, reply_fits}
 use Rattle.std.proofs.lemmas.List.{length-map}
 use Rattle.site.proofs.asked.call.Goals as goal
@@ -35,8 +36,8 @@ returns-in-Some-repeated-clause-answer g c entries stands =
     let asked = asked_of c.args.asked in
     let f = found_in s entries c.procedures-procedures.result.now c.entries_suffice.ensures.procedures stands (c.procedures-procedures.ensures ∙ ap (λ (r : Replica). r.procedures) c.replica.ensures) c.args.asked.name.now c.in-Some.procedure c.found_by_name_is_found_by_number.ensures c.stored_procedures_are_consistent.ensures (sym c.in-Some.is ∙ c.by_name.ensures) in
     let admitted = admits asked.args asked.request f.p c.in-Ok.ensures.admitted.0 (f.answered asked.args asked.request (Ok c.in-Ok.ensures.admitted.0) c.in-Ok.ensures.admitted.1) in
-    let first : first_repeated (history w (items_of entries)).certified (asked_call (items_of entries) f.p asked) ≡ Some c.in-Some-repeated.position = sym (c.repeated.ensures entries stands) ∙ c.in-Some-repeated.is in
-    ap (Repeated c.in-Some-repeated.position) (c.reply_at-reply.ensures entries (c.replies.ensures ∙ stands.replies))
+    let first : first_repeated w.beginning.requests (history w (items_of entries)).certified (asked_call (items_of entries) f.p asked) ≡ Some c.in-Some-repeated.position = sym (c.repeated.ensures entries stands) ∙ c.in-Some-repeated.is in
+    ap (Repeated c.in-Some-repeated.position) (c.reply_at-reply.ensures entries (c.replies.ensures ∙ stands.replies) ∙ ap (λ (replies : ℕ → ℕ). replies c.in-Some-repeated.position) (same_replies s entries asked.request))
     ∙ repeated_call w entries asked f.p f.named c.in-Some-repeated.position admitted first
 
 pub complete-requires-clause-can : goal.complete-requires-clause-can
@@ -60,7 +61,7 @@ returns-clause-answer g c entries stands =
     let f = found_in s entries c.procedures-procedures.result.now c.entries_suffice.ensures.procedures stands (c.procedures-procedures.ensures ∙ ap (λ (r : Replica). r.procedures) c.replica.ensures) c.args.asked.name.now c.in-Some.procedure c.found_by_name_is_found_by_number.ensures c.stored_procedures_are_consistent.ensures (sym c.in-Some.is ∙ c.by_name.ensures) in
     let admitted = admits asked.args asked.request f.p c.in-Ok.ensures.admitted.0 (f.answered asked.args asked.request (Ok c.in-Ok.ensures.admitted.0) c.in-Ok.ensures.admitted.1) in
     let here : c.position-snapshot.result ≡ length entries = c.position-snapshot.ensures.count entries stands in
-    let first : first_repeated (history w (items_of entries)).certified (asked_call (items_of entries) f.p asked) ≡ None = sym (c.repeated.ensures entries stands) ∙ c.in_default-repeated.is in
+    let first : first_repeated w.beginning.requests (history w (items_of entries)).certified (asked_call (items_of entries) f.p asked) ≡ None = sym (c.repeated.ensures entries stands) ∙ c.in_default-repeated.is in
     let program : Some c.in-Ok.accepted.now ≡ option_map (accepted_of s.catalogue.tables) (by_number (procedures_after w (items_of entries) c.position-snapshot.result) c.in-Some.procedure) =
     ap Some (f.program c.in-Ok.accepted.now c.in-Ok.ensures.program) ∙ ap (option_map (accepted_of s.catalogue.tables)) (sym (ap (λ (n : ℕ). by_number (procedures_after w (items_of entries) n) c.in-Some.procedure) here ∙ f.numbered)) in
     let can = subst (λ (r : Replica). CanRun w entries r c.in-Ok.accepted.now (record { number = 0; procedure = c.in-Some.procedure; args = c.args.asked.args.now; snapshot = c.position-snapshot.result; request = c.args.asked.request })) (sym c.replica-2.ensures) (can_run s entries c.in-Ok.accepted.now (record { number = 0; procedure = c.in-Some.procedure; args = c.args.asked.args.now; snapshot = c.position-snapshot.result; request = c.args.asked.request }) stands program) in
@@ -116,6 +117,6 @@ returns-in_err-completion-clause-memory g c = on_err c.from_residual.result _ (�
     let asked = asked_of c.args.asked in
     let f = found_in s entries c.procedures-procedures.result.now c.entries_suffice.ensures.procedures stands (c.procedures-procedures.ensures ∙ ap (λ (r : Replica). r.procedures) c.replica.ensures) c.args.asked.name.now c.in-Some.procedure c.found_by_name_is_found_by_number.ensures c.stored_procedures_are_consistent.ensures (sym c.in-Some.is ∙ c.by_name.ensures) in
     let admitted = admits asked.args asked.request f.p c.in-Ok.ensures.admitted.0 (f.answered asked.args asked.request (Ok c.in-Ok.ensures.admitted.0) c.in-Ok.ensures.admitted.1) in
-    let first : first_repeated (history w (items_of entries)).certified (asked_call (items_of entries) f.p asked) ≡ None = sym (c.repeated.ensures entries stands) ∙ c.in_default-repeated.is in
+    let first : first_repeated w.beginning.requests (history w (items_of entries)).certified (asked_call (items_of entries) f.p asked) ≡ None = sym (c.repeated.ensures entries stands) ∙ c.in_default-repeated.is in
     subst (λ answer. IsTrue (takes_memory answer)) (run_call w entries asked f.p f.named admitted first)
     (answer_of_run-takes_memory w (items_of entries) (asked_call (items_of entries) f.p asked)))

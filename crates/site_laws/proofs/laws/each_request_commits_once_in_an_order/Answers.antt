@@ -12,4 +12,4 @@ returns c s first between a b x y reply other is told stands same again =
     let goes : order_entries s before ≡ with_bytes s (order_entries s first) a ++ later =
     ap (order_entries s) (sym (append_assoc first (a ∷ []) between)) ∙ e ∙ ap (λ (xs : List Entry). xs ++ later) (c.orders_grow.ensures.next s first a) in
     let log = subst (λ (xs : List Entry). IsLog (items_of xs)) (c.orders_grow.ensures.next s before b) (c.orders_have_logs.ensures s (before ++ b ∷ [])) in
-    once s (order_entries s first) (order_entries s before) later a b x y reply other c.each_call_has_a_verdict.ensures.within c.a_log_only_grows.ensures.verdicts c.each_request_commits_once.ensures goes log is told stands same again
+    once s (order_entries s first) (order_entries s before) later a b x y reply other c.each_call_has_a_verdict.ensures.within c.a_log_only_grows.ensures.verdicts c.each_request_commits_once.ensures.once goes log is told stands same again

@@ -1,7 +1,7 @@
 use Rattle.std.proofs.Common.{◌≡◌, ◌≢◌, ℕ, suc, List, [], ◌∷◌, ◌++◌, length, sym, ap, subst, ◌∙◌, arith, append_assoc}
 use Rattle.std.specs.Option.{option_map}
 use Rattle.std.proofs.lemmas.List.{length-append}
-use Rattle.log_model.specs.Log.{IsLog, first_position, history, repeats, rows_after}
+use Rattle.log_model.specs.Log.{done_at, IsLog, first_position, history, repeats, rows_after}
 use Rattle.log_model.specs.Entries.{Entry, items_of}
 use Rattle.site_model.specs.declared.cause.NothingCause.{NothingCause}
 use Rattle.site_model.specs.declared.outcome.EntryOutcome.{EntryOutcome}
@@ -34,7 +34,7 @@ returns-clause-requests c s order bytes why request is =
     let es = order_entries s order in
     let next = c.orders_grow.ensures.next s order bytes in
     let log = subst (λ (xs : List Entry). IsLog (items_of xs)) next (c.orders_have_logs.ensures s (order ++ bytes ∷ [])) in
-    ap (λ (xs : List Entry). option_map (with_reply xs) (first_position (repeats request) 1 (history s.setting (items_of xs)).certified)) next
+    ap (λ (xs : List Entry). option_map (with_reply s xs request) (done_at s.setting.beginning.requests (history s.setting (items_of xs)).certified request)) next
     ∙ request_stays s es bytes why (nothing_from s es bytes c.each_call_has_a_verdict.ensures.within why is) log request
 
 pub returns-clause-conflicts : goal.returns-clause-conflicts

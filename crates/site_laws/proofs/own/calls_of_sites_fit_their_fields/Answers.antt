@@ -46,7 +46,7 @@ returns-clause-asked c s order asked bytes is are short args session sequence su
             session = session;
             sequence = sequence;
             whole = o.whole;
-            reply = reply_fits w.tables (procedures_after w log (length log)) call _ p c.states_fit.ensures.run known f.program args (c.logs_whose_calls_fit.ensures.rows w log (length log) fit.procedures fit.log fit.items (omega arith));
+            reply = reply_fits w.tables (procedures_after w log (length log)) call _ p c.states_fit.ensures.run known f.program args (c.logs_whose_calls_fit.ensures.rows w log (length log) fit.begins fit.log fit.items (omega arith));
           };
         }
 

@@ -38,9 +38,9 @@ own count heads s order later asked bytes is submitted =
     own_is s es later asked p bytes numbered (heads (executed s.setting (order_log s order) (asked_call (order_log s order) p asked)) is.fits)
     (sym (settled_answer s order asked ∙ ap (answer_for s.setting es asked) is.named) ∙ submitted)
 
-none_of : (entries : List Entry) (o : Option ℕ) → option_map (with_reply entries) o ≡ None → o ≡ None
-none_of entries None e = refl
-none_of entries (Some n) e = absurd cc
+none_of : (f : ℕ → ℕ × ℕ) (o : Option ℕ) → option_map f o ≡ None → o ≡ None
+none_of f None e = refl
+none_of f (Some n) e = absurd cc
 
 pub returns-clause-free : goal.returns-clause-free
 returns-clause-free c s order between asked bytes is submitted free =
@@ -51,9 +51,9 @@ returns-clause-free c s order between asked bytes is submitted free =
     let whole : IsLog (items_of (with_bytes s (es ++ later) bytes)) =
     subst (λ (xs : List Entry). IsLog (items_of (with_bytes s xs bytes))) e
     (subst (λ (xs : List Entry). IsLog (items_of xs)) (c.orders_grow.ensures.next s (order ++ between) bytes) (c.orders_have_logs.ensures s ((order ++ between) ++ bytes ∷ []))) in
-    let new : first_repeated (history s.setting (items_of (es ++ later))).certified call ≡ None =
-    subst (λ (xs : List Entry). first_repeated (history s.setting (items_of xs)).certified call ≡ None) e
-    (none_of (order_entries s (order ++ between)) (first_repeated (history s.setting (order_log s (order ++ between))).certified call) free.new) in
+    let new : first_repeated s.setting.beginning.requests (history s.setting (items_of (es ++ later))).certified call ≡ None =
+    subst (λ (xs : List Entry). first_repeated s.setting.beginning.requests (history s.setting (items_of xs)).certified call ≡ None) e
+    (none_of (with_reply s (order_entries s (order ++ between)) call.request) (first_repeated s.setting.beginning.requests (history s.setting (order_log s (order ++ between))).certified call) free.new) in
     let first : length (order_log s order) ≡ length order = length-map es item_of ∙ count s order in
     let all : length (items_of (es ++ later)) ≡ length order + length between =
     length-map (es ++ later) item_of ∙ sym (ap (λ (xs : List Entry). length xs) e) ∙ count s (order ++ between) ∙ length-append order between in

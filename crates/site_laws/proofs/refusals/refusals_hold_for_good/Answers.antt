@@ -7,7 +7,7 @@ use Rattle.site_model.specs.declared.outcome.EntryOutcome.{EntryOutcome}
 use Rattle.site_model.specs.declared.outcome.EntryOutcome.TheVariants as outcome
 use Rattle.site_model.specs.Answer.{answer_for}
 use Rattle.site_model.specs.Standing.{Standing, StandsAs, executed, standing}
-use Rattle.site_model.specs.Order.{Order, next_outcome, order_entries, order_log, outcome_of, with_bytes}
+use Rattle.site_model.specs.Order.{replies_to, Order, next_outcome, order_entries, order_log, outcome_of, with_bytes}
 use Rattle.site_laws.specs.Orders.{procedures_behind}
 use Rattle.site_laws.proofs.LogLemmas.{entry_is}
 use Rattle.site_laws.proofs.SettledLemmas.{by_head, known_by, stands_by}
@@ -62,7 +62,7 @@ returns-clause-arguments c s order more bytes asked p call told reply distinct r
     let log = order_log s (order ++ more) in
     let by = by_head s log bytes call told head in
     let v = verdict_of w (items_of (with_bytes s es bytes)) (length es + 1) in
-    let st = stands_by w log call bytes (with_bytes s es bytes) v reply (sym (ap (λ (x : Standing). outcome_of (with_bytes s es bytes) x v) by) ∙ commits) in
+    let st = stands_by w log call bytes (replies_to s (with_bytes s es bytes) bytes) v reply (sym (ap (λ (x : Standing). outcome_of (replies_to s (with_bytes s es bytes) bytes) x v) by) ∙ commits) in
     let stands : standing s log bytes ≡ StandsAs (CallEntry (executed w log call)) = by ∙ st.stands in
     let (q, known) = known_by (procedure_of w log call) call.args st.takes in
     let recent : call.snapshot ≤ length es =

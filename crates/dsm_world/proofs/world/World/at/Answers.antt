@@ -1,3 +1,4 @@
+use Rattle.catalogue.specs.Catalogue.{beginning_of}
 use Rattle.std.proofs.Common.{◌≡◌, ◌-◌, ◌≤◌, nat_lt, take, Some, false, subst, sym, ap, ◌∙◌, arith}
 use Rattle.schema.specs.Rows.{Rows}
 use Rattle.rows_mv.specs.Versions.{AnswersFrom}
@@ -13,7 +14,7 @@ returns-clause-rows g c =
     let keeps = c.keeps_what_was_delivered.ensures.replicas c.args.replica r at in
     let reached : c.args.position ≤ r.position = (let p = c.position.ensures in let ge = c.if-position.false in omega arith) in
     subst (λ (rows : Rows). c.at.result.gone ≡ false → AnswersFrom c.at.result.versions.now.tables c.at.result.position rows) (rows_are c.entries_suffice.ensures.rows s r c.args.position keeps reached)
-    (c.at.ensures.answers s.catalogue.procedures (take r.position s.entries) keeps.delivered)
+    (c.at.ensures.answers (beginning_of s.catalogue) (take r.position s.entries) keeps.delivered)
 
 pub returns-clause-gone : goal.returns-clause-gone
 returns-clause-gone g c m there =

@@ -79,7 +79,7 @@ invariant_of-self-2 g c =
     let reached = has_reached s (call_slots c.self.inside) f.at old c.self.invariant.together f.there in
     let snapshot = c.begin-snapshot.ensures in
     let log = items_count s.entries in
-    let rows = c.rows_fit_the_schema.ensures (setting_of s) (items_of s.entries) c.begin-snapshot.result c.self.invariant.together.entries.procedures c.self.invariant.together.entries.log c.self.invariant.together.entries.items (omega arith) in
+    let rows = c.rows_fit_the_schema.ensures (setting_of s) (items_of s.entries) c.begin-snapshot.result c.self.invariant.together.entries.begins c.self.invariant.together.entries.log c.self.invariant.together.entries.items (omega arith) in
     let program = ap (λ n. by_number (procedures_after (setting_of s) (items_of s.entries) n) c.args.procedure) snapshot ∙ there in
     entered_consistent c.self.inside _ c.in-Ok-begun.open_call.value c.self.invariant (refl, refl, refl) c.in-Ok-enter.ensures.entered (c.in-Ok-begun.ensures.follows (setting_of s) (items_of s.entries) p program is rows)
     (step_kept s c.args.self.now _ _ _ c.self.view_is (c.steps_keep_a_world.ensures.step (setting_of c.args.self.now)) c.are_bytes.ensures (returns-clause-step g c) c.self.invariant.together.world)

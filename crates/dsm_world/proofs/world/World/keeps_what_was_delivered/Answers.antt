@@ -1,5 +1,5 @@
 use Rattle.std.proofs.Common.{◌≡◌, ◌++◌, Some, subst}
-use Rattle.log_model.specs.Fit.{HasSafeProcedures}
+use Rattle.log_model.specs.Fit.{BeginsSafely}
 use Rattle.log_model.specs.declared.verdict.Verdict.TheVariants.{Commit}
 use Rattle.log_model.specs.Log.{run_in, verdict_of}
 use Rattle.log_model.specs.Entries.{CallEntry}
@@ -18,8 +18,8 @@ returns-clause-world g c = subst (λ (s : SystemWorld). IsWorld (setting_of s) (
 pub returns-clause-catalogue : goal.returns-clause-catalogue
 returns-clause-catalogue g c = subst (λ (s : SystemWorld). IsCatalogue s.catalogue) c.self.view_is c.each_catalogue_is_consistent.ensures
 
-pub returns-clause-procedures : goal.returns-clause-procedures
-returns-clause-procedures g c = subst (λ (s : SystemWorld). HasSafeProcedures (setting_of s)) c.self.view_is c.self.invariant.together.entries.procedures
+pub returns-clause-begins : goal.returns-clause-begins
+returns-clause-begins g c = subst (λ (s : SystemWorld). BeginsSafely (setting_of s)) c.self.view_is c.self.invariant.together.entries.begins
 
 pub returns-clause-entries : goal.returns-clause-entries
 returns-clause-entries g c = subst (λ (s : SystemWorld). AreEntriesOf (setting_of s) s.entries) c.self.view_is c.self.invariant.together.entries
@@ -32,7 +32,7 @@ returns-clause-replicas g c n r =
 pub returns-clause-sound : goal.returns-clause-sound
 returns-clause-sound g c n o =
     subst (λ (s : SystemWorld). open_call (world_of s) n ≡ Some o → IsSound (setting_of s) (world_of s).log o) c.self.view_is
-    (c.open_calls_are_sound.ensures (setting_of (system_of c.self.inside)) (world_of (system_of c.self.inside)) n o c.self.invariant.together.entries.procedures c.self.invariant.together.world)
+    (c.open_calls_are_sound.ensures (setting_of (system_of c.self.inside)) (world_of (system_of c.self.inside)) n o c.self.invariant.together.entries.begins c.self.invariant.together.world)
 
 pub returns-clause-stays : goal.returns-clause-stays
 returns-clause-stays g c n o more =
@@ -48,4 +48,4 @@ pub returns-clause-serial : goal.returns-clause-serial
 returns-clause-serial g c position e =
     let is = c.self.invariant.together.entries in
     subst (λ (s : SystemWorld). numbered s.entries position ≡ Some (CallEntry e) → verdict_of (setting_of s) (world_of s).log position ≡ Some Commit → IsSerialReply (setting_of s) (world_of s).log position e.reply) c.self.view_is
-    (c.entries_carry_serial_replies.ensures.serial (setting_of (system_of c.self.inside)) (system_of c.self.inside).entries position e is.procedures is.log is.items is.runs)
+    (c.entries_carry_serial_replies.ensures.serial (setting_of (system_of c.self.inside)) (system_of c.self.inside).entries position e is.begins is.log is.items is.runs)

@@ -1,3 +1,4 @@
+use Rattle.catalogue.specs.Catalogue.{beginning_of}
 use Rattle.std.proofs.Common.{List, All, length, slice_set, refl, sym, ap, subst, ◌∙◌, arith}
 use Rattle.std.proofs.lemmas.List.Elements.{All-from_recursion}
 use Rattle.schema.specs.Rows.{AreWrites}
@@ -62,7 +63,7 @@ returns-clause-step g c =
     let at = held_at c.self.inside c.len.result c.in-Some.at old c.in-Some.ensures.there.1 c.len.ensures c.index_mut.ensures.value in
     let position = c.in-Ok.ensures.position ∙ ap (λ xs. length xs) c.deref.ensures.value ∙ sym (length-map c.self.inside.entries.items entry_of) in
     subst (λ n. IsStep (setting_of s) (world_of s) (Rebuild c.args.replica) (Rebuilt n) (world_of (with_one s c.in-Some.at new))) (sym position)
-    (rebuilt s c.args.replica c.in-Some.at old new c.in-Some.ensures.there.0 at (subst (λ xs. StandsFor s.catalogue.procedures new (entries_of xs)) c.deref.ensures.value c.in-Ok.ensures.stands) c.in-Ok.ensures.running)
+    (rebuilt s c.args.replica c.in-Some.at old new c.in-Some.ensures.there.0 at (subst (λ xs. StandsFor (beginning_of s.catalogue) new (entries_of xs)) c.deref.ensures.value c.in-Ok.ensures.stands) c.in-Ok.ensures.running)
     )
 
 pub invariant_of-self-2 : goal.invariant_of-self-2
@@ -72,7 +73,7 @@ invariant_of-self-2 g c =
     let new = c.rebuild.new.self in
     let at = held_at c.self.inside c.len.result c.in-Some.at old c.in-Some.ensures.there.1 c.len.ensures c.index_mut.ensures.value in
     replica_consistent c.self.inside _ c.in-Some.at new c.self.invariant (refl, refl, refl, refl)
-    (rebuilt_replica s (call_slots c.self.inside) c.in-Some.at old new c.self.invariant.together at (subst (λ xs. StandsFor s.catalogue.procedures new (entries_of xs)) c.deref.ensures.value c.in-Ok.ensures.stands) c.in-Ok.ensures.window c.in-Ok.ensures.tables c.in-Ok.ensures.procedures)
+    (rebuilt_replica s (call_slots c.self.inside) c.in-Some.at old new c.self.invariant.together at (subst (λ xs. StandsFor (beginning_of s.catalogue) new (entries_of xs)) c.deref.ensures.value c.in-Ok.ensures.stands) c.in-Ok.ensures.window c.in-Ok.ensures.tables c.in-Ok.ensures.procedures)
     (step_kept s c.args.self.now _ _ _ c.self.view_is (c.steps_keep_a_world.ensures.step (setting_of c.args.self.now)) tt (returns-clause-step g c) c.self.invariant.together.world)
 
 pub returns-in_default-rebuild-clause-step : goal.returns-in_default-rebuild-clause-step

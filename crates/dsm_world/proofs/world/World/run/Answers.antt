@@ -18,7 +18,7 @@ use Rattle.dsm_world.proofs.world.World.run.Goals as goal
 
 pub returns-in_err-outcomes-clause-sound : goal.returns-in_err-outcomes-clause-sound
 returns-in_err-outcomes-clause-sound g c n o e =
-    c.open_calls_are_sound.ensures (setting_of c.args.self.now) (world_of c.args.self.now) n o c.keeps_what_was_delivered.ensures.procedures c.keeps_what_was_delivered.ensures.world e
+    c.open_calls_are_sound.ensures (setting_of c.args.self.now) (world_of c.args.self.now) n o c.keeps_what_was_delivered.ensures.begins c.keeps_what_was_delivered.ensures.world e
 
 pub loop-step-init : goal.loop-step-init
 loop-step-init g c = record {
@@ -50,7 +50,7 @@ loop-step-preserved g c =
 
 pub returns-clause-sound : goal.returns-clause-sound
 returns-clause-sound g c n o e =
-    c.open_calls_are_sound.ensures (setting_of c.loop-step.self) (world_of c.loop-step.self) n o c.keeps_what_was_delivered-2.ensures.procedures c.keeps_what_was_delivered-2.ensures.world e
+    c.open_calls_are_sound.ensures (setting_of c.loop-step.self) (world_of c.loop-step.self) n o c.keeps_what_was_delivered-2.ensures.begins c.keeps_what_was_delivered-2.ensures.world e
 
 pub returns-clause-replies : goal.returns-clause-replies
 returns-clause-replies g c n i j position reply =
@@ -61,7 +61,7 @@ returns-clause-replies g c n i j position reply =
     let given = subst (λ (xs : List Step). AreGiven (setting_of s) (map (step_of (setting_of s)) xs) c.loop-step.outcomes.items) all c.loop-step.invariant.given in
     subst (λ (w : Setting). slice_get (map (step_of (setting_of s)) c.args.steps.now) i ≡ Some (TurnStep n) → slice_get c.loop-step.outcomes.items i ≡ Some (Exit reply) → slice_get (map (step_of (setting_of s)) c.args.steps.now) j ≡ Some (OrderStep n) → slice_get c.loop-step.outcomes.items j ≡ Some (Ordered position) → i < j
     → verdict_of w (world_of t).log position ≡ Some Commit → IsSerialReply w (world_of t).log position reply) (sym c.loop-step.invariant.same)
-    (c.replies_are_serial.ensures (setting_of s) (world_of s) (map (step_of (setting_of s)) c.args.steps.now) c.loop-step.outcomes.items (world_of t) n i j position reply c.keeps_what_was_delivered.ensures.procedures given c.keeps_what_was_delivered.ensures.world done)
+    (c.replies_are_serial.ensures (setting_of s) (world_of s) (map (step_of (setting_of s)) c.args.steps.now) c.loop-step.outcomes.items (world_of t) n i j position reply c.keeps_what_was_delivered.ensures.begins given c.keeps_what_was_delivered.ensures.world done)
 
 pub returns-clause-exits : goal.returns-clause-exits
 returns-clause-exits g c n call p =
@@ -73,7 +73,7 @@ returns-clause-exits g c n call p =
     subst (λ (w : Setting). IsCallNumbered (world_of s) (map (step_of (setting_of s)) c.args.steps.now) c.loop-step.outcomes.items n call → procedure_of w (world_of t).log call ≡ Some p
     → longest_path p.program ≤ turns_of n (map (step_of (setting_of s)) c.args.steps.now) c.loop-step.outcomes.items
     → HasExited n (run_in w (world_of t).log call).reply (map (step_of (setting_of s)) c.args.steps.now) c.loop-step.outcomes.items) (sym c.loop-step.invariant.same)
-    (c.enough_turns_reach_exit.ensures.exit (setting_of s) (world_of s) (map (step_of (setting_of s)) c.args.steps.now) c.loop-step.outcomes.items (world_of t) n call p c.keeps_what_was_delivered.ensures.procedures given c.keeps_what_was_delivered.ensures.world done)
+    (c.enough_turns_reach_exit.ensures.exit (setting_of s) (world_of s) (map (step_of (setting_of s)) c.args.steps.now) c.loop-step.outcomes.items (world_of t) n call p c.keeps_what_was_delivered.ensures.begins given c.keeps_what_was_delivered.ensures.world done)
 
 pub returns-clause-verdicts : goal.returns-clause-verdicts
 returns-clause-verdicts g c j position v told =
@@ -86,8 +86,8 @@ returns-clause-verdicts g c j position v told =
 
 pub returns-clause-once : goal.returns-clause-once
 returns-clause-once g c d e a b =
-    c.each_request_commits_once.ensures (setting_of c.loop-step.self) (world_of c.loop-step.self).log d e a b c.keeps_what_was_delivered-2.ensures.world.log
+    c.each_request_commits_once.ensures.once (setting_of c.loop-step.self) (world_of c.loop-step.self).log d e a b c.keeps_what_was_delivered-2.ensures.world.log
 
 pub returns-in_err-outcomes-clause-once : goal.returns-in_err-outcomes-clause-once
 returns-in_err-outcomes-clause-once g c d e a b =
-    c.each_request_commits_once.ensures (setting_of c.args.self.now) (world_of c.args.self.now).log d e a b c.keeps_what_was_delivered.ensures.world.log
+    c.each_request_commits_once.ensures.once (setting_of c.args.self.now) (world_of c.args.self.now).log d e a b c.keeps_what_was_delivered.ensures.world.log

@@ -15,4 +15,4 @@ returns-clause-answers g c = λ here.
     let held : length seen ≤ length me.seen = omega (arith, v, c.requires) in
     let same = rows_seen c.beginnings_say_the_same.ensures.rows c.entries_suffice.ensures.rows w me.replica me.seen seen c.len.result c.self.invariant (c.agrees.ensures held) c.len.ensures.len held in
     subst (λ (rows : Rows). AnswersFrom c.at.result.versions.now.tables c.at.result.position rows) same
-    (c.at.ensures.answers w.catalogue (entries_of me.seen) c.self.invariant.follows.stands.delivered here)
+    (c.at.ensures.answers w.beginning (entries_of me.seen) c.self.invariant.follows.stands.delivered here)

@@ -1,7 +1,7 @@
 use Rattle.std.proofs.Common.{List, ◌≡◌, subst}
 use Rattle.std.specs.FinMap.{entries as map_entries}
 use Rattle.std.specs.Prelude.{IfOk}
-use Rattle.log_model.specs.Log.{Catalogue}
+use Rattle.log_model.specs.Log.{Beginning, Catalogue}
 use Rattle.log_model.specs.Entries.{Entry}
 use Rattle.replica.specs.Replica.{StandsFor, rows_kept}
 use Rattle.site.specs.Replica.{SiteReplica}
@@ -11,4 +11,4 @@ use Rattle.site.proofs.state.SiteReplica.rows.Goals as goal
 pub returns : goal.returns
 returns g c =
     rows_listed c.args.self.now (λ list. list.items) c.rows.result c.fit_entries_go_on.ensures.rows
-    (subst (λ (x : SiteReplica). IfOk c.rows.result (λ list. (base : Catalogue) (entries : List Entry) → StandsFor base x.replica entries → list.items ≡ map_entries (rows_kept x.replica.window base entries x.replica.position))) c.self.view_is c.rows.ensures)
+    (subst (λ (x : SiteReplica). IfOk c.rows.result (λ list. (base : Beginning) (entries : List Entry) → StandsFor base x.replica entries → list.items ≡ map_entries (rows_kept x.replica.window base entries x.replica.position))) c.self.view_is c.rows.ensures)
