@@ -176,10 +176,14 @@ func (s *Site) ran(r *Request, line []byte) error {
 	return nil
 }
 
-// repeated answers a call whose pair has committed before, by whether that was this very call.
+// repeated answers a call whose pair was done before, by whether that was this very call. Before the order is position 0.
 func (s *Site) repeated(r *Request, position, reply uint64) {
 	call := r.call()
-	if s.askedAt.at(position) == askedBy(uint16(s.procedures[call.Name].number), call.Args) {
+	done := s.askedAt.at(position)
+	if position == 0 {
+		done = s.askedBefore[call.Session]
+	}
+	if done == askedBy(uint16(s.procedures[call.Name].number), call.Args) {
 		s.tell(r, Answer{Kind: Committed, At: position, Value: reply})
 	} else {
 		s.tell(r, Answer{Kind: Other, At: position})

@@ -79,6 +79,22 @@ func askedBy(number uint16, args []byte) asked {
 	return it
 }
 
+// askedBefore returns what sessions asked last before the order, by session, of settings that an engine has accepted.
+func askedBefore(settings []byte) map[uint32]asked {
+	found := map[uint32]asked{}
+	for _, line := range bytes.Split(settings, []byte{'\n'}) {
+		fields := bytes.Split(line, []byte{' '})
+		if string(fields[0]) != "request" || len(fields) != 6 {
+			continue
+		}
+		session, _ := strconv.ParseUint(string(fields[1]), 10, 32)
+		number, _ := strconv.ParseUint(string(fields[4]), 10, 16)
+		args, _ := hex.DecodeString(string(bytes.TrimPrefix(fields[5], []byte{'-'})))
+		found[uint32(session)] = askedBy(uint16(number), args)
+	}
+	return found
+}
+
 // askedIn returns what a call that stands in the order asked.
 func askedIn(call []byte) asked {
 	length := int(binary.LittleEndian.Uint16(call[15:]))

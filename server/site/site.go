@@ -110,25 +110,27 @@ type Site struct {
 	awaySince   time.Time // when it was told that the order can't be reached; zero where it can
 
 	procedures map[string]procedure
-	askedAt    askedAt
-	asking     outstanding
-	early      []*Request // that came before the site had caught up
-	turns      turns
-	ready      queue[*Request] // calls that may begin
-	behind     waiting         // calls that wait for a position
-	fresh      queue[*Request]
-	retries    waiting // calls that wait for a time, in nanoseconds
-	submitted  []*order.String
-	filledTo   uint64   // the position up to which the order was filled up
-	spooling   *Request // whose rows the engine prints, into spool
-	spool      *Spool
-	rowsNext   []*Request   // who wait for their rows
-	flushes    []Asker      // who were answered in this turn
-	flusher    chan []Asker // to the goroutine that flushes where many are
-	counts     Counts
-	growth     growth
-	stats      stats
-	now        time.Time
+
+	askedBefore map[uint32]asked // by session
+	askedAt     askedAt
+	asking      outstanding
+	early       []*Request // that came before the site had caught up
+	turns       turns
+	ready       queue[*Request] // calls that may begin
+	behind      waiting         // calls that wait for a position
+	fresh       queue[*Request]
+	retries     waiting // calls that wait for a time, in nanoseconds
+	submitted   []*order.String
+	filledTo    uint64   // the position up to which the order was filled up
+	spooling    *Request // whose rows the engine prints, into spool
+	spool       *Spool
+	rowsNext    []*Request   // who wait for their rows
+	flushes     []Asker      // who were answered in this turn
+	flusher     chan []Asker // to the goroutine that flushes where many are
+	counts      Counts
+	growth      growth
+	stats       stats
+	now         time.Time
 }
 
 // pending is what the engine was asked for.
@@ -169,8 +171,9 @@ func New(o Options) *Site {
 	return &Site{
 		settings: o.Settings, order: o.Order, start: o.Start, patience: o.Patience, overrule: o.Overrule, say: o.Say, warn: o.Warn, maker: o.Maker,
 		wake: make(chan struct{}, 1), closed: make(chan struct{}), flusher: make(chan []Asker, flushersWait),
-		votes: votes.New(o.Maker, o.Settings), procedures: proceduresOf(o.Settings), turns: turns{},
-		vote: batch.Vote{Answers: batch.OfSettings(o.Settings)},
+		votes: votes.New(o.Maker, o.Settings), procedures: proceduresOf(o.Settings), askedBefore: askedBefore(o.Settings),
+		turns: turns{},
+		vote:  batch.Vote{Answers: batch.OfSettings(o.Settings)},
 	}
 }
 

@@ -287,6 +287,17 @@ func TestConflictStaleAndARepeat(t *testing.T) {
 	}
 }
 
+func TestWhatWasDoneBeforeTheOrder(t *testing.T) {
+	before := settings + "request 7 3 10 1 " + words_(5, 10) + "\nrequest 8 0 0 0 -\nrequest 9 1 4 3 -\n"
+	r := run(t, newShared(), 1, func(o *Options) { o.Settings = []byte(before) })
+	r.want("call add "+words_(5, 10)+" 7 3", "committed 0 reply 10")
+	r.want("call add "+words_(5, 11)+" 7 3", "other 0")
+	r.want("call claim "+words_(5)+" 7 3", "other 0")
+	r.want("call add "+words_(5, 10)+" 9 1", "other 0")
+	r.want("call add "+words_(5, 10)+" 7 4", "committed 2 reply 10")
+	r.want("call add "+words_(5, 10)+" 8 1", "committed 3 reply 20")
+}
+
 func TestAfterFreshAndPatience(t *testing.T) {
 	of := newShared()
 	r, two := run(t, of, 1, nil).caughtUp(), run(t, of, 2, nil)

@@ -57,6 +57,7 @@ class Drawn:
         self.settings = f"window {self.random.choice([1, 2, 4, 8, 16])}\ntable 1 8\n"
         self.settings += "additions\n" if additions else ""
         self.settings += "".join(f"proc {name} {number} {args} {code}\n" for name, number, args, code in PROCEDURES)
+        self.settings += self.beginning()
         self.sites = [Site(self.settings.encode()) for _ in range(SITES)]
         self.lines, self.answers = ([[] for _ in range(SITES)] for _ in range(2))
         self.order, self.submitted, self.given = [], [], [0] * SITES
@@ -67,6 +68,16 @@ class Drawn:
             while self.given[at] < len(self.order):
                 self.give(at)
             self.ask(at, "rows")
+
+    def beginning(self):
+        """Returns lines of rows and of requests that were done before, or none."""
+        drawn = lambda least, most: sorted(self.random.sample(range(least, least + most), self.random.randint(0, most)))
+        rows, sessions = drawn(0, self.random.choice([0, 4])), drawn(1, self.random.choice([0, 3]))
+        requests = [(session, self.random.randint(0, 30)) for session in sessions]
+        self.before = {pair for pair in requests if pair[1] > 0}
+        lines = [f"row 1 {key} {words(self.random.randrange(100))}\n" for key in rows]
+        lines += [f"request {s} {q} {self.random.randrange(100)} 1 -\n" for s, q in requests]
+        return "".join(lines)
 
     def ask(self, at, line):
         answer = answer_of(self.sites[at], line.encode())
@@ -100,6 +111,8 @@ class Drawn:
             if not writes:
                 continue
             _, *asked, snapshot = self.sites[0].head(self.order[d - 1])
+            if asked[0] in self.before:
+                return f"{asked} was done before, and commits at {d}"
             for position, newest, settled in self.settled:
                 if settled == tuple(asked) and settled[0] != (0, 0) and position < d and snapshot <= newest:
                     return f"{settled} was settled at {position}, and commits at {d}"
@@ -154,6 +167,8 @@ class Drawn:
             return self.random.choice(self.order)
         recent = self.submitted[-6:] if chosen < 0.85 else self.submitted
         string = self.random.choice(recent)
+        if string[:1] == b"\1" and self.before and self.random.random() < 0.1:  # a pair that was done before
+            return string[:1] + b"".join(it.to_bytes(4, "little") for it in min(self.before)) + string[9:]
         return self.changed(string) if self.random.random() < 0.25 else string
 
     def changed(self, string):

@@ -14,6 +14,7 @@ sys.path.insert(0, f"{os.path.dirname(os.path.realpath(__file__))}/../../sdk/c/t
 from decoding import decode_fault
 from machine import Machine
 
+SETTINGS = {"window": 2, "table": 3, "proc": 5, "additions": 1, "row": 4, "request": 6}  # words of each line
 LONGEST_LINE, LAST, LAST_KEY = 1_048_576, 4_294_967_295, 18_446_744_073_709_551_615
 NUMBER, HEX, NAME = (re.compile(it) for it in ("0|[1-9][0-9]*", "-|([0-9A-Fa-f]{2})+", "[0-9A-Za-z_]{1,32}"))
 
@@ -57,7 +58,7 @@ class Site:
         self.writes, self.done = [], {}  # by position: what was written; by pair: who committed, and the reply
         for at, raw in enumerate(settings.split(b"\n"), 1):
             try:
-                self.set(words_of(raw, {"window": 2, "table": 3, "proc": 5, "additions": 1}))
+                self.set(words_of(raw, SETTINGS))
             except Fault as fault:
                 sys.exit(f"line {at}: {fault}")
         if self.window is None:
@@ -73,6 +74,10 @@ class Site:
             self.widths[number(words[1], 64)] = number(words[2], 128)
         elif words[:1] == ["proc"]:
             self.procedures[words[1]] = (number(words[2], 65535), number(words[3], 256), hex_bytes(words[4]))
+        elif words[:1] == ["row"]:
+            self.rows[0][number(words[1], 64), number(words[2], LAST_KEY)] = hex_bytes(words[3])
+        elif words[:1] == ["request"]:
+            self.done[number(words[1], LAST), number(words[2], LAST)] = (0, number(words[3], LAST_KEY))
         elif words:
             self.additions = True
 

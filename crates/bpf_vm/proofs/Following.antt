@@ -18,7 +18,7 @@ use Rattle.bpf_vm.specs.declared.turn.Turn.{Turn}
 use Rattle.bpf_vm.specs.declared.turn.Turn.TheVariants.{More, Exit, Stale, NoMemory}
 use Rattle.bpf_vm.specs.Turns.{MachineState, CanStep, FollowsMoment, FollowsStep, MayWantMemory, DoesNothing}
 use Rattle.bpf_vm.specs.Calls.{LooksMore}
-use Rattle.bpf_vm.specs.Run.{Effects, effects_of, own_effects, IsAfter, HasRun, HasEnded, IsStaleAt, AfterTurn, IsNotStale}
+use Rattle.bpf_vm.specs.Run.{Effects, effects_of, own_effects, no_effects, IsAcceptedProcedure, IsAfter, HasRun, HasEnded, IsStaleAt, AfterTurn, IsNotStale}
 
 pub next_is : (p : Program) (tables : Tables) (k : ℕ) (s t : State) → moment p tables k s ≡ Going t → moment p tables (k + 1) s ≡ step p tables t
 unfolding moment
@@ -27,6 +27,19 @@ next_is p tables k s t e = let one : k + 1 ≡ suc k = omega arith in ap (λ (j 
 pub first_is : (p : Program) (tables : Tables) (s : State) → moment p tables 0 s ≡ Going s
 unfolding moment
 first_is p tables s = refl
+
+-- words that hold the state at entry have run nothing
+pub has_begun : (p : Procedure) (args : List ℕ) (rows : Rows) (m : MachineState) → IsAcceptedProcedure p → Holds (entry_state args rows) m.words → m.last ≡ More → HasRun p args rows 0 m no_effects
+has_begun p args rows m sound held going = record {
+  here = record {
+    sound = sound;
+    state = entry_state args rows;
+    at = first_is p.program p.tables (entry_state args rows);
+    held = held;
+    done = refl;
+  };
+  going = going;
+}
 
 -- what was done is that of the state
 pub viewed : {A : Type 0} (answers_from : Rows → Type 0) (own : Own A) (s : State) (rows : Rows) → own_effects own ≡ effects_of s → answers_from rows → s.rows ≡ after_writes s.writes rows → IsViewOf answers_from own s

@@ -41,6 +41,10 @@ held_under number (e ∷ held) =
     by true rest = refl
     by false rest = rest
 
+pub held_as : (number : ℕ) (held : Held) (found : Option NamedProcedure) → found ≡ lookup (nat_eq number) held
+    → option_map (λ n. n.accepted) found ≡ option_map (λ l. l.accepted) (listed_by_number (listed held) number)
+held_as number held found is = ap (λ (o : Option NamedProcedure). option_map (λ n. n.accepted) o) is ∙ held_under number held
+
 none_held : (number : ℕ) (held : Held) → listed_by_number (listed held) number ≡ None → lookup (nat_eq number) held ≡ None
 none_held number [] none = refl
 none_held number (e ∷ held) none =

@@ -138,6 +138,55 @@ kept_last entries done past c s position at commit carried is keeps r one =
     ∙ ap (λ (n : ℕ). or_else (done_at done past (Some r)) (cond (repeats (Some r) c) (just n) None)) (let same : position ≡ 1 + length past = omega arith in same)
     ∙ sym (done_one_more done past c (Some r))
 
+-- ---- one more request that was done before
+
+abbrev at_first : Option ℕ
+at_first = Some 0
+
+done_more : (done : List DoneRequest) (d : DoneRequest) (request : Option RequestId) → done_at (done ++ d ∷ []) [] request ≡ or_else (done_at done [] request) (cond (same_request request (Some d.request)) at_first None)
+unfolding first_position
+done_more [] d request = elim (same_request request (Some d.request)) as (λ b. cond (is_some (cond b (Some d) None)) at_first None ≡ cond b at_first None) [
+  | true ↦ refl
+  | false ↦ refl
+]
+done_more (x ∷ done) d request =
+    elim (same_request request (Some x.request)) as (λ b. cond (is_some (cond b (Some x) (done_under (done ++ d ∷ []) request))) at_first None ≡ or_else (cond (is_some (cond b (Some x) (done_under done request))) at_first None) (cond (same_request request (Some d.request)) at_first None)) [
+      | true ↦ refl
+      | false ↦ done_more done d request
+    ]
+
+stays : (o other : Option ℕ) → is_some o ≡ true → or_else o other ≡ o
+stays None other e = absurd cc
+stays (Some x) other e = refl
+
+-- where the key is there already
+pub noted_before : (entries : List (ℕ × ℕ)) (done : List DoneRequest) (d : DoneRequest) → IsRequest d.request → is_some (lookup (nat_eq (key_of d.request)) entries) ≡ true → KeepsRequests entries done [] → KeepsRequests entries (done ++ d ∷ []) []
+noted_before entries done d is there keeps r one =
+    elim (nat_eq (key_of r) (key_of d.request)) as (λ b. nat_eq (key_of r) (key_of d.request) ≡ b → lookup (nat_eq (key_of r)) entries ≡ done_at (done ++ d ∷ []) [] (Some r)) [
+      | false ↦ λ e.
+          keeps r one ∙ sym (or_none (done_at done [] (Some r))) ∙ ap (λ b. or_else (done_at done [] (Some r)) (cond b at_first None)) (sym e ∙ same_key r d.request one is)
+          ∙ sym (done_more done d (Some r))
+      | true ↦ λ e.
+          let same : key_of d.request ≡ key_of r = is_eq (key_of r) (key_of d.request) e in
+          let some : is_some (done_at done [] (Some r)) ≡ true = sym (ap is_some (keeps r one)) ∙ ap (λ (k : ℕ). is_some (lookup (nat_eq k) entries)) (sym same) ∙ there in
+          keeps r one ∙ sym (stays (done_at done [] (Some r)) (cond (same_request (Some r) (Some d.request)) at_first None) some) ∙ sym (done_more done d (Some r))
+    ] refl
+  where
+    is_eq : (m n : ℕ) → nat_eq m n ≡ true → n ≡ m
+    is_eq m n e = grind (arith, nat_tests)
+
+    or_none : (o : Option ℕ) → or_else o None ≡ o
+    or_none (Some x) = refl
+    or_none None = refl
+
+-- where it isn't, it comes last
+pub noted_last : (entries : List (ℕ × ℕ)) (done : List DoneRequest) (d : DoneRequest) → IsRequest d.request → KeepsRequests entries done [] → KeepsRequests (entries ++ (key_of d.request, 0) ∷ []) (done ++ d ∷ []) []
+noted_last entries done d is keeps r one =
+    lookup_last (nat_eq (key_of r)) entries (key_of d.request) 0
+    ∙ ap (λ (o : Option ℕ). or_else o (cond (nat_eq (key_of r) (key_of d.request)) at_first None)) (keeps r one)
+    ∙ ap (λ b. or_else (done_at done [] (Some r)) (cond b at_first None)) (same_key r d.request one is)
+    ∙ sym (done_more done d (Some r))
+
 -- no request is repeated
 never_repeated : (n : ℕ) (past : List CertifiedItem) → first_position (repeats None) n past ≡ None
 unfolding first_position

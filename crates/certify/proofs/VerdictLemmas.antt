@@ -8,6 +8,7 @@ use Rattle.std.proofs.lemmas.List.{length-drop}
 use Rattle.std.proofs.lemmas.Bool.Decides.{nat_tests}
 use Rattle.schema.specs.declared.look.Look.{Look}
 use Rattle.schema.specs.Rows.{Key, Writes, shares_key}
+use Rattle.sig_lanes.proofs.LawLemmas.{few_set}
 use Rattle.sig_lanes.specs.Signature.{bit_of, looks_set_bit, writes_set_bit, shares_bit}
 use Rattle.log_model.specs.declared.verdict.Verdict.TheVariants.{Stale, Repeated}
 use Rattle.log_model.specs.Log.{Call, DoneRequest, CertifiedItem, is_commit, conflicts, first_position, first_repeated, unless_repeated, unless_conflict, verdict_after}
@@ -94,20 +95,6 @@ search_gives meets shares looks bits (c ∷ later) before h =
     ] refl
 
 -- ---- the tests, by what is kept
-
-either : (a b : Bool) → (a || b) ≡ true → (a ≡ true) ⊎ (b ≡ true)
-either true b e = inl e
-either false b e = inr e
-
-one_bit : (m n : ℕ) → nat_eq m n ≡ true → m ≡ n
-one_bit m n e = grind (arith, nat_tests)
-
-few_set : ((k : Key) → bit_of k < 1024) → (ks : List Key) (bit : ℕ) → list_any (λ k. nat_eq (bit_of k) bit) ks ≡ true → bit < 1024
-few_set few [] bit e = absurd cc
-few_set few (k ∷ ks) bit e = elim (either (nat_eq (bit_of k) bit) (list_any (λ q. nat_eq (bit_of q) bit) ks) e) [
-  | inl here ↦ subst (λ (b : ℕ). b < 1024) (one_bit (bit_of k) bit here) (few k)
-  | inr later ↦ few_set few ks bit later
-]
 
 abbrev pub SharedBits : List Look → Type 0
 SharedBits looks = (writes : Writes) → IsTrue (shares_bit looks writes) ↔ ((bit : ℕ) × IsTrue (looks_set_bit looks bit) × IsTrue (writes_set_bit writes bit))

@@ -57,6 +57,9 @@ pub record Latest : Type 0 where
   pub count : ℕ
   pub ring : Ring
 
+abbrev pub latest_of : ℕ → ℕ → List (List (List ℕ)) → List Writes → Latest
+latest_of window count blocks writes = record { window = window; count = count; ring = record { blocks = blocks; writes = writes } }
+
 pub record IsMemoryOfLatest (m : Latest) (past : List CertifiedItem) : Type 0 where
   pub count : m.count ≡ length past
   pub kept : Keeps m.ring past

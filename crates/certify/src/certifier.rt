@@ -1,13 +1,13 @@
 //! Verdicts on calls in the order of their delivery.
 
-ghost use Rattle.std.specs.Prelude.{◌≡◌, ◌+◌, ◌<◌, ◌≤◌, ◌^◌, ◌++◌, [], ◌∷◌, List, length, IfOk, OnOk, IsSome, None};
+ghost use Rattle.std.specs.Prelude.{◌≡◌, ◌+◌, ◌<◌, ◌≤◌, ◌^◌, ◌++◌, [], ◌∷◌, List, length, IfOk, OnOk, OnErr, IsSome, None};
 ghost use Rattle.log_model.specs.Log.{Call, CertifiedItem, DoneRequest, done_at, verdict_after};
 ghost use Rattle.certify.specs.Comparisons.{comparisons_after};
 ghost use Rattle.std.specs.FinMap.{empty};
 ghost use Rattle.certify.specs.Kept.{IsPreparedOf, IsMemoryOf};
 
 use crate::prepared::{Prepared, prepared_of};
-use crate::requests::{Requests, keep_request, repeated_in};
+use crate::requests::{Requests, keep_request, note_done, repeated_in};
 use crate::ring::{empty_blocks, empty_writes, keep_in};
 use crate::search::find_verdict;
 use indexmap::IndexMap;
@@ -92,6 +92,18 @@ impl<A: Allocator + Copy> Certifier<A> {
             writes,
             requests: IndexMap::new(alloc),
         })
+    }
+
+    /// Notes a request that was done before the log. After want of memory what is kept is the same.
+    pub fn note_done(&mut self, request: RequestId) -> Result<(), AllocError>
+        ensures stands { OnOk result ((done : List DoneRequest) (d : DoneRequest) → d.request ≡ request
+            → IsMemoryOf self.old.memory done [] → IsMemoryOf self.new.memory (done ++ d ∷ []) []) }
+        ensures unchanged { OnErr result (self.new.memory ≡ self.old.memory) }
+        ensures window { self.new.memory.window ≡ self.old.memory.window }
+        ensures count { self.new.memory.count ≡ self.old.memory.count }
+        ensures compared { self.new.compared ≡ self.old.compared }
+    {
+        note_done(&mut self.requests, request)
     }
 
     /// The verdict on a call at the next position. Takes no memory.

@@ -1,6 +1,6 @@
 //! The requests that were done, each with its position.
 
-ghost use Rattle.std.specs.Prelude.{◌≡◌, ◌+◌, ◌<◌, ◌^◌, [], ◌∷◌, ◌++◌, List, length, IsSome};
+ghost use Rattle.std.specs.Prelude.{◌≡◌, ◌+◌, ◌<◌, ◌^◌, [], ◌∷◌, ◌++◌, List, length, IsSome, OnOk, OnErr};
 ghost use Rattle.indexmap.specs.IndexMap.{spare};
 ghost use Rattle.log_model.specs.Log.{DoneRequest, CertifiedItem, is_commit, done_at};
 ghost use Rattle.certify.specs.Kept.{key_of, KeepsRequests};
@@ -8,7 +8,7 @@ ghost use Rattle.certify.specs.Kept.{key_of, KeepsRequests};
 use crate::ring::is_commit;
 use indexmap::IndexMap;
 use log_model::{RequestId, Verdict};
-use std::alloc::Allocator;
+use std::alloc::{AllocError, Allocator};
 use std::hash::{BuildHasherDefault, FoldHasher};
 
 /// The map from a request, as one number, to the position at which it was done.
@@ -39,6 +39,23 @@ pub(crate) fn repeated_in<A: Allocator>(
         Some(position) => Some(*position),
         None => None,
     }
+}
+
+/// Notes a request that was done before the log, under the position 0.
+pub(crate) fn note_done<A: Allocator>(
+    requests: &mut Requests<A>,
+    request: RequestId,
+) -> Result<(), AllocError>
+    ensures noted { OnOk result ((done : List DoneRequest) (d : DoneRequest) → d.request ≡ request
+        → KeepsRequests requests.old.entries done [] → KeepsRequests requests.new.entries (done ++ d ∷ []) []) }
+    ensures unchanged { OnErr result (requests.new.entries ≡ requests.old.entries) }
+{
+    let key = key_of(request);
+    if repeated_in(requests, Some(request)).is_some() {
+        return Ok(());
+    }
+    requests.insert(key, 0)?;
+    Ok(())
 }
 
 /// Keeps the request of an item of this verdict, which stands at this position.

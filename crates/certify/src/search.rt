@@ -7,7 +7,7 @@ ghost use Rattle.sig_lanes.specs.Signature.{looks_set_bit};
 ghost use Rattle.sig_lanes.specs.Bits.{has_bit};
 ghost use Rattle.log_model.specs.Log.{Call, DoneRequest, CertifiedItem, first_repeated, verdict_after};
 ghost use Rattle.certify.specs.Comparisons.{comparisons_after};
-ghost use Rattle.certify.specs.Kept.{HasPlaces, IsMemoryOfLatest};
+ghost use Rattle.certify.specs.Kept.{HasPlaces, IsMemoryOfLatest, latest_of};
 ghost use Rattle.certify.specs.Search.{search, lane_met, kept_shares, Meets};
 
 use log_model::Verdict;
@@ -173,19 +173,11 @@ pub fn find_verdict<A: Allocator + Copy, B: Allocator>(
     requires snapshot { snapshot ≤ count }
     ensures verdict { (done : List DoneRequest) (past : List CertifiedItem) (call : Call) → call.snapshot ≡ snapshot
         → first_repeated done past call ≡ None
-        → IsMemoryOfLatest (record {
-          window = window;
-          count = count;
-          ring = record { blocks = blocks.now; writes = kept.now };
-        }) past
+        → IsMemoryOfLatest (latest_of window count blocks.now kept.now) past
         → result.0 ≡ verdict_after window done past call reads.now }
     ensures compared { (done : List DoneRequest) (past : List CertifiedItem) (call : Call) → call.snapshot ≡ snapshot
         → first_repeated done past call ≡ None
-        → IsMemoryOfLatest (record {
-          window = window;
-          count = count;
-          ring = record { blocks = blocks.now; writes = kept.now };
-        }) past
+        → IsMemoryOfLatest (latest_of window count blocks.now kept.now) past
         → result.1 ≡ length (comparisons_after window done past call reads.now) }
 {
     // Laws:

@@ -10,6 +10,11 @@ begin with #, are skipped. Settings, which print nothing:
   proc NAME NUMBER ARGSLEN HEX
                            a procedure, the length of its arguments in bytes,
                            0 to 256, and its program
+  row T K HEX              a row that is there at first, behind that of the row
+                           line before, by table and key
+  request S Q V N HEX      a request that was done before, of a session behind
+                           that of the line before: session, sequence number,
+                           reply, and the procedure and arguments of its call
 
 Lines that act, each with what it prints:
   begin R NAME HEX         a call begins at replica R, with these arguments
@@ -67,8 +72,8 @@ Exit status: 0 done, 1 a line at fault, 2 a command line that can't be read,
 /// The lines of a script whose calls run on threads, and what is printed of them, as docs/FORMATS.md explains them.
 pub const RUN_HELP: &str = "\
 Lines of a script, which is read whole before its calls begin. Settings, as
-dsmdb replay --help explains them: window, replicas, table, proc. Behind them
-stand only calls:
+dsmdb replay --help explains them: window, replicas, table, proc, row, request.
+Behind them stand only calls:
   begin R NAME HEX         a call at replica R, with these arguments
   begin R NAME HEX SESSION SEQ
                            the same with a request, which commits once at most:
@@ -111,7 +116,7 @@ Exit status: 0 done, 1 a line at fault, 2 a command line that can't be read,
 /// The settings of a site, the lines that are given to it, and what it answers, as docs/FORMATS.md explains them.
 pub const SITE_HELP: &str = "\
 Settings, which all sites of an order have in common, as dsmdb replay --help
-explains them: window, table, proc; and once, without fields,
+explains them: window, table, proc, row, request; and once, without fields,
   additions                procedures may be added by the order
 
 The lines of the input. Each is answered, and the answer has left, before the

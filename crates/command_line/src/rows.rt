@@ -210,7 +210,32 @@ pub const OF_PROCEDURES: [Explanation; 33] = [
 ];
 
 /// The refusals of what is run, each once.
-pub const OF_RUNS: [Explanation; 40] = [
+pub const OF_RUNS: [Explanation; 46] = [
+    Explanation {
+        number: "D1",
+        cause: "there is no table of this number",
+        cure: "put the `table` line first, or mend the number",
+        in_c: "",
+    },
+    Explanation {
+        number: "D2",
+        cause: "the row isn't as wide as its table",
+        cure: "give as many bytes as the `table` line says",
+        in_c: "",
+    },
+    Explanation {
+        number: "D3",
+        cause: "the key isn't behind that of the row before, in the order of tables and keys; a key that stands \
+            twice too",
+        cure: "sort the rows by table and key, as numbers, and leave each key once",
+        in_c: "",
+    },
+    Explanation {
+        number: "Q1",
+        cause: "the session isn't behind that of the request before",
+        cure: "sort the lines by session, and leave the last request of each",
+        in_c: "",
+    },
     Explanation {
         number: "P1",
         cause: "there is no such replica; a `rows` line asks for one, too",
@@ -403,12 +428,12 @@ pub const OF_RUNS: [Explanation; 40] = [
     },
     Explanation {
         number: "L5",
-        cause: "the line doesn't stand where it may: a second `window` or `replicas`, a `table` behind a `proc`, a \
-            setting behind the first line that acts (so a `proc` behind an `add`), a line that acts before \
-            `window` and `replicas` are both set; under `run` also a line that acts but isn't `begin`, and, as \
-            line 0, a script that ends without `window` or `replicas`",
-        cure: "settings first: window and replicas once each, tables, then procedures; under `run` then `begin` \
-            lines alone",
+        cause: "the line doesn't stand where it may: a second `window` or `replicas`, a `table` behind a `proc`, \
+            `row` or `request`, a setting behind the first line that acts (so a `proc` behind an `add`), a line \
+            that acts before `window` and `replicas` are both set; under `run` also a line that acts but isn't \
+            `begin`, and, as line 0, a script that ends without `window` or `replicas`",
+        cure: "settings first: window and replicas once each, tables, then procedures, rows and requests; under \
+            `run` then `begin` lines alone",
         in_c: "",
     },
     Explanation {
@@ -436,6 +461,18 @@ pub const OF_RUNS: [Explanation; 40] = [
         cause: "out of memory: S4, B12, V12 and C3 too; for a setting, for the world, and for what a line says: what \
             a line prints takes none",
         cure: "give the process more memory, and run the script again from its first line: its world ended with it",
+        in_c: "",
+    },
+    Explanation {
+        number: "L10",
+        cause: "the row of a `row` line can't be put: D1 to D3",
+        cure: "see D",
+        in_c: "",
+    },
+    Explanation {
+        number: "L11",
+        cause: "the request of a `request` line can't be put: Q1",
+        cure: "see Q",
         in_c: "",
     },
     Explanation {

@@ -8,7 +8,8 @@ ghost use Rattle.log_model.specs.declared.verdict.Verdict.TheVariants.{Commit};
 ghost use Rattle.dsm_model.specs.declared.outcome.Outcome.TheVariants.{Exit, Ordered, Delivered};
 ghost use Rattle.bpf_semantics.specs.Path.{longest_path};
 ghost use Rattle.log_model.specs.Log.{Call, CallItem, Log, StoredProcedure, by_name, procedure_of, procedures_after};
-ghost use Rattle.log_model.specs.Log.{run_in, same_request, verdict_of};
+ghost use Rattle.log_model.specs.Log.{reply_done, run_in, same_request, verdict_of};
+ghost use Rattle.log_model.specs.Verdicts.{IsDoneBefore};
 ghost use Rattle.log_model.specs.Entries.{CallEntry, ExecutedCall};
 ghost use Rattle.log_entry.specs.Kind.{entry_of};
 ghost use Rattle.log_model.specs.Fit.{BeginsSafely};
@@ -212,6 +213,10 @@ impl<A: Allocator + Copy> World<A> {
             → verdict_of (setting_of self.new) (world_of self.new).log (suc d) ≡ Some Commit
             → verdict_of (setting_of self.new) (world_of self.new).log (suc e) ≡ Some Commit
             → IsTrue (same_request a.request b.request) → d ≡ e }
+        // No committed call has a request that was done before the log.
+        ensures not_before { (d : ℕ) (call : Call) → slice_get (world_of self.new).log d ≡ Some (CallItem call)
+            → verdict_of (setting_of self.new) (world_of self.new).log (suc d) ≡ Some Commit
+            → IsDoneBefore (setting_of self.new) call → ⊥ }
         // A call of which as many turns ran an instruction as its longest path has was answered Exit, by one of these
         // steps.
         ensures exits { IfOk result (λ outcomes. (c : ℕ) (call : Call) (p : StoredProcedure)
@@ -286,6 +291,13 @@ impl<A: Allocator + Copy> World<A> {
     {
         let at = index_of(position, self.entries.len())?;
         Some(&self.entries[at])
+    }
+
+    /// The reply of a request that was done before the log.
+    pub fn reply_done(&self, request: Option<RequestId>) -> Option<u64>
+        ensures { result ≡ reply_done (setting_of self.now).beginning.requests request }
+    {
+        self.catalogue.requests().reply(request)
     }
 
     /// A replica, by its number from 1 on.

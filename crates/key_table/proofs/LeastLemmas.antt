@@ -5,7 +5,7 @@ use Rattle.std.proofs.lemmas.List.{length-map, map-set, length-set, get_or_defau
 use Rattle.std.proofs.Math.ListN.{get_or-map}
 use Rattle.std.proofs.Math.Seq.{map-set_same}
 use Rattle.row_chain.specs.Slots.{Slot}
-use Rattle.key_table.proofs.PageEditLemmas.{split, upper}
+use Rattle.key_table.proofs.PageEditLemmas.{halved, halves, upper}
 use Rattle.key_table.specs.Pages.{begins_by, least_key, least_keys, AreFilled}
 
 pub begins_first : (k : ℕ) (p : List Slot) → 0 < length p → begins_by k p ≡ nat_le (least_key p) k
@@ -55,13 +55,13 @@ least_halves (q ∷ ps) zero lo hi d lt is = ap (λ (k : ℕ). k ∷ least_key h
 least_halves (q ∷ ps) (suc i) lo hi d lt is = ap (λ (l : List ℕ). least_key q ∷ l) (least_halves ps i lo hi d (omega arith) is)
 
 -- a page is split
-pub least_split : (ps : List (List Slot)) (i : ℕ) (p : List Slot) → i < length ps → p ≡ get_or ps i p → least_keys (split ps i p) ≡ insert (least_keys ps) (i + 1) (least_key (drop 32 p))
+pub least_split : (ps : List (List Slot)) (i : ℕ) (p : List Slot) → i < length ps → p ≡ get_or ps i p → least_keys (halves ps i p) ≡ insert (least_keys ps) (i + 1) (least_key (drop 32 p))
 least_split ps i p lt is =
     let n : suc i ≡ i + 1 = omega arith in
     subst (λ (k : ℕ). least_keys (take i ps ++ take 32 p ∷ drop 32 p ∷ drop k ps) ≡ insert (least_keys ps) k (least_key (drop 32 p))) n (least_halves ps i (take 32 p) (drop 32 p) p lt (split_first p ∙ ap least_key is))
 
 -- the least key of the upper half is noted
-pub split_noted : (ps new d : List (List Slot)) (ls rs out : List ℕ) (i first : ℕ) (b : Bool) → i < length ps → ls ≡ least_keys ps → rs ≡ ls → new ≡ split ps i (get_or ps i []) → d ≡ new
+pub split_noted : (ps new d : List (List Slot)) (ls rs out : List ℕ) (i first : ℕ) (b : Bool) → i < length ps → ls ≡ least_keys ps → rs ≡ ls → new ≡ halves ps i (get_or ps i []) → d ≡ new
     → first ≡ least_key (get_or d (i + 1) []) → out ≡ cond b (insert rs (i + 1) first) rs → b ≡ true → out ≡ least_keys new
 split_noted ps new d ls rs out i first b lt is same eq read note out_is ok =
     let p = get_or ps i [] in
@@ -70,6 +70,17 @@ split_noted ps new d ls rs out i first b lt is same eq read note out_is ok =
     ∙ ap (λ (l : List ℕ). insert l (i + 1) first) (same ∙ is)
     ∙ ap (insert (least_keys ps) (i + 1)) upper_key
     ∙ sym (least_split ps i p lt (get_or_default ps i [] p lt))
+    ∙ ap least_keys (sym eq)
+
+-- the key of a page behind another is noted
+pub behind_noted : (ps new : List (List Slot)) (ls rs out : List ℕ) (i k : ℕ) (x : Slot) (b : Bool) → i < length ps → ls ≡ least_keys ps → rs ≡ ls → new ≡ halved ps i (get_or ps i []) (x ∷ [])
+    → k ≡ x.key → out ≡ cond b (insert rs (i + 1) k) rs → b ≡ true → out ≡ least_keys new
+behind_noted ps new ls rs out i k x b lt is same eq key out_is ok =
+    let n : suc i ≡ i + 1 = omega arith in
+    out_is ∙ ap (λ (t : Bool). cond t (insert rs (i + 1) k) rs) ok
+    ∙ ap (λ (l : List ℕ). insert l (i + 1) k) (same ∙ is)
+    ∙ ap (insert (least_keys ps) (i + 1)) key
+    ∙ sym (subst (λ (k : ℕ). least_keys (take i ps ++ get_or ps i [] ∷ (x ∷ []) ∷ drop k ps) ≡ insert (least_keys ps) k x.key) n (least_halves ps i (get_or ps i []) (x ∷ []) [] lt refl))
     ∙ ap least_keys (sym eq)
 
 -- ---- all are noted in turn

@@ -15,6 +15,7 @@ ghost use Rattle.key_table.specs.Groups.{group_slots, has_any, AreGroups};
 use crate::group::Group;
 use crate::group_edits::GROUP_PAGES;
 use crate::pages::{key_behind, place_of};
+use crate::split::Split;
 use std::alloc::{AllocError, Allocator};
 
 /// The most groups of a table, more than memory holds, so that the table's keys can be counted.
@@ -157,6 +158,7 @@ fn reserve_at<A: Allocator + Copy>(
     at: usize,
     width: u16,
     key: u64,
+    split: Split,
 ) -> Result<(), AllocError>
     requires at { at < length groups.old.items }
     requires room { (g : List (List Slot)) → length (slice_index_or groups.old.items at g) < GROUP_PAGES }
@@ -174,7 +176,7 @@ fn reserve_at<A: Allocator + Copy>(
     ensures others { (g : List (List Slot))
         → groups.new.items ≡ slice_set groups.old.items at (slice_index_or groups.new.items at g) }
 {
-    groups[at].reserve(alloc, width, key)
+    groups[at].reserve(alloc, width, key, split)
 }
 
 /// Makes room for one more version of a key in its group, and notes the least key of the group.
@@ -185,6 +187,7 @@ fn reserve_in<A: Allocator + Copy>(
     at: usize,
     width: u16,
     key: u64,
+    split: Split,
 ) -> Result<(), AllocError>
     requires groups { AreGroups width groups.old.items }
     requires least { least.old.items ≡ least_keys (group_slots groups.old.items) }
@@ -199,7 +202,7 @@ fn reserve_in<A: Allocator + Copy>(
     ensures more { (q : ℕ) → HasRoomAt (all_slots (group_slots groups.old.items)) q
         → HasRoomAt (all_slots (group_slots groups.new.items)) q }
 {
-    let reserved = reserve_at(groups, alloc, at, width, key);
+    let reserved = reserve_at(groups, alloc, at, width, key, split);
     set_least(least, groups, at);
     reserved
 }
@@ -211,6 +214,7 @@ fn reserve_first<A: Allocator + Copy>(
     alloc: A,
     width: u16,
     key: u64,
+    split: Split,
 ) -> Result<(), AllocError>
     requires none { groups.old.items ≡ [] }
     requires least { least.old.items ≡ [] }
@@ -222,7 +226,7 @@ fn reserve_first<A: Allocator + Copy>(
 {
     least.reserve(1)?;
     let mut group = Group::new(alloc);
-    group.reserve(alloc, width, key)?;
+    group.reserve(alloc, width, key, split)?;
     let first = group.least();
     groups.push(group)?;
     let noted = least.push(first);
@@ -238,6 +242,7 @@ pub fn reserve<A: Allocator + Copy>(
     alloc: A,
     width: u16,
     key: u64,
+    split: Split,
 ) -> Result<(), AllocError>
     requires groups { AreGroups width groups.old.items }
     requires least { least.old.items ≡ least_keys (group_slots groups.old.items) }
@@ -253,10 +258,10 @@ pub fn reserve<A: Allocator + Copy>(
         return Err(AllocError);
     }
     if groups.is_empty() {
-        return reserve_first(least, groups, alloc, width, key);
+        return reserve_first(least, groups, alloc, width, key, split);
     }
     let at = make_place(least, groups, alloc, key)?;
-    reserve_in(least, groups, alloc, at, width, key)
+    reserve_in(least, groups, alloc, at, width, key, split)
 }
 
 /// Adds one version of a key in a group.

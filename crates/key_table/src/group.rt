@@ -11,6 +11,7 @@ ghost use Rattle.key_table.specs.Pages.{all_slots, least_key, has_slots, IsInser
 ghost use Rattle.key_table.specs.Pages.{IsPrunedWithin};
 ghost use Rattle.key_table.specs.Changes.{IsChangedAt, IsAdded};
 
+use crate::split::Split;
 use crate::{group_edits, pages};
 use row_chain::Page;
 use std::alloc::{AllocError, Allocator, Global};
@@ -118,18 +119,24 @@ impl<A: Allocator + Copy> Group<A> {
 
     /// Makes room for one more version of a key, which is put in its place where it is new. After want of memory each
     /// key has the versions it had.
-    pub fn reserve(&mut self, alloc: A, width: u16, key: u64) -> Result<(), AllocError>
+    pub fn reserve(
+        &mut self,
+        alloc: A,
+        width: u16,
+        key: u64,
+        split: Split,
+    ) -> Result<(), AllocError>
         requires { length self.old < GROUP_PAGES }
         ensures found { IsSome (chain_at (all_slots self.old) key)
             → IsChangedAt (IsReserved (is_ok result)) key (all_slots self.old) (all_slots self.new) }
-        ensures inserted { OnOk result (chain_at (all_slots self.old) key ≡ None → IsInserted key self.old self.new) }
+        ensures inserted { OnOk result (chain_at (all_slots self.old) key ≡ None → IsInserted split key self.old self.new) }
         ensures added { OnOk result (chain_at (all_slots self.old) key ≡ None
             → IsAdded width key (all_slots self.old) (all_slots self.new)) }
         ensures none { OnErr result (chain_at (all_slots self.old) key ≡ None
             → all_slots self.new ≡ all_slots self.old) }
         ensures size { IsGroupSized self.new }
     {
-        group_edits::reserve(&mut self.least, &mut self.pages, alloc, width, key)
+        group_edits::reserve(&mut self.least, &mut self.pages, alloc, width, key, split)
     }
 }
 

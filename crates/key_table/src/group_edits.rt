@@ -7,12 +7,13 @@ ghost use Rattle.std.specs.Option.{option_copied, IsSomeAnd};
 ghost use Rattle.row_chain.specs.Version.{HasRoom};
 ghost use Rattle.row_chain.specs.Slots.{Slot, IsReserved, IsPushed, AreRising, chain_at, HasRoomAt};
 ghost use Rattle.key_table.specs.declared.group_edits.TheConstants.{PAGE_KEYS, GROUP_PAGES};
-ghost use Rattle.key_table.specs.Pages.{all_slots, least_key, least_keys, with_slot, in_page, in_pages, begins_by};
+ghost use Rattle.key_table.specs.Pages.{all_slots, least_key, least_keys, with_slot, in_page, in_pages, begins_by, goes_behind};
 ghost use Rattle.key_table.specs.Pages.{has_slots, AreFilled, ArePages, IsInserted, IsPrunedTo, IsPrunedWithin};
 ghost use Rattle.key_table.specs.Pages.{ArePagesPruned};
 ghost use Rattle.key_table.specs.Changes.{IsChangedAt, IsAdded};
 
 use crate::pages::{find, key_behind, place_of};
+use crate::split::Split;
 use row_chain::{Entry, Page};
 use std::alloc::{AllocError, Allocator};
 
@@ -220,12 +221,51 @@ fn insert_half<A: Allocator>(
     insert_at(least, pages, page, entry)
 }
 
-/// Puts an entry into a page, and first splits the page where it is full.
+/// Tells whether a key begins a page of its own behind a full one.
+fn goes_behind<A: Allocator>(pages: &[Page<A>], page: usize, split: Split, entry: &Entry<A>) -> bool
+    requires page { page < length pages.now }
+    requires rising { (p : List Slot) → AreRising (slice_index_or pages.now page p) }
+    ensures { (p : List Slot) → result ≡ goes_behind split entry.now (slice_index_or pages.now page p) }
+{
+    match split {
+        Split::Halves => false,
+        Split::Behind => pages[page].ends_below(entry.key()),
+    }
+}
+
+/// Makes a page of an entry behind another page. After want of memory nothing has changed.
+fn insert_behind<A: Allocator + Copy>(
+    least: &mut Vec<u64, A>,
+    pages: &mut Vec<Page<A>, A>,
+    alloc: A,
+    page: usize,
+    entry: Entry<A>,
+) -> Result<(), AllocError>
+    requires page { page < length pages.old.items }
+    requires least { least.old.items ≡ least_keys pages.old.items }
+    ensures least { least.new.items ≡ least_keys pages.new.items }
+    ensures done { OnOk result ((p : List Slot)
+        → pages.new.items ≡ take page pages.old.items ++ slice_index_or pages.old.items page p
+        ∷ (entry ∷ []) ∷ drop (page + 1) pages.old.items) }
+    ensures none { OnErr result (pages.new.items ≡ pages.old.items) }
+{
+    least.reserve(1)?;
+    let key = entry.key();
+    let added = Page::new(alloc, entry)?;
+    pages.insert(page + 1, added)?;
+    let noted = least.insert(page + 1, key);
+    prove!(noted.is_ok());
+    Ok(())
+}
+
+/// Puts an entry into a page. Where the page is full, the entry goes behind it or the page is first split.
 fn insert_into<A: Allocator + Copy>(
     least: &mut Vec<u64, A>,
     pages: &mut Vec<Page<A>, A>,
+    alloc: A,
     page: usize,
     entry: Entry<A>,
+    split: Split,
 ) -> Result<(), AllocError>
     requires page { page < length pages.old.items }
     requires rising { (p : List Slot) → AreRising (slice_index_or pages.old.items page p) }
@@ -234,13 +274,16 @@ fn insert_into<A: Allocator + Copy>(
     ensures least { least.new.items ≡ least_keys pages.new.items }
     ensures done { OnOk result ((p : List Slot)
         → pages.new.items ≡ take page pages.old.items
-        ++ (in_page entry (slice_index_or pages.old.items page p) ++ drop (page + 1) pages.old.items)) }
+        ++ (in_page split entry (slice_index_or pages.old.items page p) ++ drop (page + 1) pages.old.items)) }
     ensures none { OnErr result (all_slots pages.new.items ≡ all_slots pages.old.items) }
     ensures filled { AreFilled PAGE_KEYS pages.new.items }
     ensures few { length pages.new.items ≤ length pages.old.items + 1 }
 {
     if keys(pages, page) < PAGE_KEYS {
         return insert_at(least, pages, page, entry);
+    }
+    if goes_behind(pages, page, split, &entry) {
+        return insert_behind(least, pages, alloc, page, entry);
     }
     split_at(least, pages, page)?;
     insert_half(least, pages, page, entry)
@@ -274,12 +317,13 @@ fn insert<A: Allocator + Copy>(
     pages: &mut Vec<Page<A>, A>,
     alloc: A,
     entry: Entry<A>,
+    split: Split,
 ) -> Result<(), AllocError>
     requires rising { AreRising (all_slots pages.old.items) }
     requires filled { AreFilled PAGE_KEYS pages.old.items }
     requires least { least.old.items ≡ least_keys pages.old.items }
     ensures least { least.new.items ≡ least_keys pages.new.items }
-    ensures done { OnOk result (pages.new.items ≡ in_pages entry pages.old.items) }
+    ensures done { OnOk result (pages.new.items ≡ in_pages split entry pages.old.items) }
     ensures none { OnErr result (all_slots pages.new.items ≡ all_slots pages.old.items) }
     ensures filled { AreFilled PAGE_KEYS pages.new.items }
     ensures few { length pages.new.items ≤ length pages.old.items + 1 }
@@ -288,7 +332,7 @@ fn insert<A: Allocator + Copy>(
         return insert_first(least, pages, alloc, entry);
     }
     let page = place_of(least, entry.key());
-    insert_into(least, pages, page, entry)
+    insert_into(least, pages, alloc, page, entry, split)
 }
 
 /// Makes room for one more version of a key, which is put in its place where it is new.
@@ -298,6 +342,7 @@ pub fn reserve<A: Allocator + Copy>(
     alloc: A,
     width: u16,
     key: u64,
+    split: Split,
 ) -> Result<(), AllocError>
     requires pages { ArePages pages.old.items }
     requires least { least.old.items ≡ least_keys pages.old.items }
@@ -307,7 +352,7 @@ pub fn reserve<A: Allocator + Copy>(
     ensures found { IsSome (chain_at (all_slots pages.old.items) key)
         → IsChangedAt (IsReserved (is_ok result)) key (all_slots pages.old.items) (all_slots pages.new.items) }
     ensures inserted { OnOk result (chain_at (all_slots pages.old.items) key ≡ None
-        → IsInserted key pages.old.items pages.new.items) }
+        → IsInserted split key pages.old.items pages.new.items) }
     ensures added { OnOk result (chain_at (all_slots pages.old.items) key ≡ None
         → IsAdded width key (all_slots pages.old.items) (all_slots pages.new.items)) }
     ensures none { OnErr result (chain_at (all_slots pages.old.items) key ≡ None
@@ -318,7 +363,7 @@ pub fn reserve<A: Allocator + Copy>(
         None => {
             let mut entry = Entry::new(width, key);
             entry.reserve(alloc)?;
-            insert(least, pages, alloc, entry)
+            insert(least, pages, alloc, entry, split)
         }
     }
 }

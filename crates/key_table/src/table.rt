@@ -9,6 +9,7 @@ ghost use Rattle.key_table.specs.Pages.{has_slots};
 ghost use Rattle.key_table.specs.Table.{AreRising, ArePrunedOrSame, chain_at, versions_at, HasRoomAt, rows_between};
 
 use crate::group::Group;
+use crate::split::Split;
 use crate::{edits, groups};
 use std::alloc::{AllocError, Allocator, Global};
 use std::marker::Model;
@@ -105,14 +106,16 @@ impl<A: Allocator> KeyTable<A> {
 }
 
 impl<A: Allocator + Copy> KeyTable<A> {
-    /// Makes room for one more version of a key. After want of memory each key has the versions it had.
-    pub fn reserve(&mut self, alloc: A, key: u64) -> Result<(), AllocError>
+    /// Makes room for one more version of a key. `split` says how a full page takes the key. After want of memory each
+    /// key has the versions it had.
+    pub fn reserve(&mut self, alloc: A, key: u64, split: Split) -> Result<(), AllocError>
         ensures versions { (q : ℕ) → versions_at self.new.slots q ≡ versions_at self.old.slots q }
         ensures room { OnOk result (HasRoomAt self.new.slots key) }
         ensures more { (q : ℕ) → HasRoomAt self.old.slots q → HasRoomAt self.new.slots q }
         ensures width { self.new.width ≡ self.old.width }
     {
-        edits::reserve(&mut self.least, &mut self.groups, alloc, self.width, key)
+        let width = self.width;
+        edits::reserve(&mut self.least, &mut self.groups, alloc, width, key, split)
     }
 }
 

@@ -38,10 +38,9 @@ module _ {A : Type 0} where
   abbrev pub with_entries : Replica → List (LogEntry A) → LockedState A
   with_entries r entries = record { replica = r; entries = entries }
 
-  pub keeps_none : (w : Setting) (r : Replica) (entries : List (LogEntry A)) → entries ≡ [] → AreTables w.tables → BeginsSafely w → w.beginning.requests ≡ [] → StandsIn w r [] → Keeps w (with_entries r entries)
-  keeps_none w r entries none schema safe none_before stands = subst (λ (xs : List (LogEntry A)). Keeps w (with_entries r xs)) (sym none) (record {
+  pub keeps_none : (w : Setting) (r : Replica) (entries : List (LogEntry A)) → entries ≡ [] → AreTables w.tables → BeginsSafely w → StandsIn w r [] → Keeps w (with_entries r entries)
+  keeps_none w r entries none schema safe stands = subst (λ (xs : List (LogEntry A)). Keeps w (with_entries r xs)) (sym none) (record {
     schema = schema;
-    none_before = none_before;
     follows = record { of_log = record { begins = safe; log = tt; items = tt; runs = tt }; stands = stands };
   })
 
@@ -50,7 +49,6 @@ module _ {A : Type 0} where
       → StandsIn w new (entries_of entries ++ entry_of e ∷ []) → Keeps w (with_entries new seen)
   keeps_more of_log w old new entries seen e keeps is fact stands = subst (λ (xs : List (LogEntry A)). Keeps w (with_entries new xs)) (sym is) (record {
     schema = keeps.schema;
-    none_before = keeps.none_before;
     follows = record {
       of_log = of_log w entries e keeps.schema keeps.follows.of_log fact;
       stands = subst (StandsIn w new) (sym (entries_append entries (e ∷ []))) stands;

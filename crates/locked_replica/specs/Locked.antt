@@ -24,7 +24,6 @@ locked_code {A} = code_by (Replica × List (LogEntry A)) (coded× replica_code (
 -- the replica follows the log of what was delivered, and the setting's tables are those of a schema
 pub record Keeps {A : Type 0} (w : Setting) (l : LockedState A) : Type 0 where
   pub schema : AreTables w.tables
-  pub none_before : w.beginning.requests ≡ []  -- no request was done before the log
   pub follows : FollowsLog w l.replica (entries_of l.entries)
 
 -- what came of a delivery: one more entry, with the verdict of the log; or the log showed none, and nothing has changed, the
@@ -36,11 +35,11 @@ Delivers {A} w old (Delivered verdict) new =
 Delivers w old Nothing new = (new ≡ old) × (old.replica.stopped ≡ false)
 Delivers w old Stopped new = (new.entries ≡ old.entries) × (new.replica.stopped ≡ true) × (old.replica.stopped ≡ true → new ≡ old)
 
--- what is known of the last of some entries at a replica: its verdict, the entries being a log's before which no request was
--- done; or the replica has stopped before it, or hasn't come so far yet
+-- what is known of the last of some entries at a replica: its verdict, the entries being a log's; or the replica has stopped
+-- before it, or hasn't come so far yet
 abbrev pub Finds : {A : Type 0} → Setting → LockedState A → List (LogEntry A) → Found → Type 0
 Finds w l seen (found.Verdict verdict) =
     (length seen ≤ length l.entries) × AreEntriesOf w (entries_of seen)
-    × (verdict_of w (items_of (entries_of seen)) (length seen) ≡ Some verdict) × (w.beginning.requests ≡ [])
+    × (verdict_of w (items_of (entries_of seen)) (length seen) ≡ Some verdict)
 Finds w l seen found.Stopped = (length l.entries < length seen) × (l.replica.stopped ≡ true)
 Finds w l seen found.NotYet = (length l.entries < length seen) × (l.replica.stopped ≡ false)

@@ -75,36 +75,29 @@ is_item_grown : (w : Setting) (log more : Log) (n : ℕ) (item : Item) → IsPla
 is_item_grown w log more n (CallItem call) below le is = is_call_grown w log more call (omega arith) is
 is_item_grown w log more n (AdditionItem p) below le is = is
 
-are_items_grown : (w : Setting) (log more : Log) (n : ℕ) (items : Log) → IsLogFrom n items → n + length items ≤ length log → AllByRecursion (IsItem w log) items → AllByRecursion (IsItem w (log ++ more)) items
-are_items_grown w log more n [] below le all = tt
-are_items_grown w log more n (item ∷ items) below le all =
-    (is_item_grown w log more n item below.0 (omega arith) all.0, are_items_grown w log more (suc n) items below.1 (omega arith) all.1)
+-- what holds of each item of a log holds of them in a longer one, where that is so of one item
+all_grown : (P : Log → Item → Type 0) (log more : Log) → ((n : ℕ) (item : Item) → IsPlaced n item → n ≤ length log → P log item → P (log ++ more) item)
+    → (n : ℕ) (items : Log) → IsLogFrom n items → n + length items ≤ length log → AllByRecursion (P log) items → AllByRecursion (P (log ++ more)) items
+all_grown P log more one n [] below le all = tt
+all_grown P log more one n (item ∷ items) below le all =
+    (one n item below.0 (omega arith) all.0, all_grown P log more one (suc n) items below.1 (omega arith) all.1)
 
-all_snoc : (w : Setting) (whole items : Log) (item : Item) → AllByRecursion (IsItem w whole) items → IsItem w whole item → AllByRecursion (IsItem w whole) (items ++ item ∷ [])
-all_snoc w whole [] item all is = (is, tt)
-all_snoc w whole (first ∷ items) item all is = (all.0, all_snoc w whole items item all.1 is)
+all_snoc : (P : Item → Type 0) (items : Log) (item : Item) → AllByRecursion P items → P item → AllByRecursion P (items ++ item ∷ [])
+all_snoc P [] item all is = (is, tt)
+all_snoc P (first ∷ items) item all is = (all.0, all_snoc P items item all.1 is)
 
 pub are_items_snoc : (w : Setting) (log : Log) (item : Item) → IsLog log → AreItems w log → IsPlaced (length log) item → IsItem w log item → AreItems w (log ++ item ∷ [])
 are_items_snoc w log item below items le is =
-    all_snoc w (log ++ item ∷ []) log item (are_items_grown w log (item ∷ []) 0 log below (omega arith) items) (is_item_grown w log (item ∷ []) (length log) item le (omega arith) is)
+    all_snoc (IsItem w (log ++ item ∷ [])) log item (all_grown (IsItem w) log (item ∷ []) (is_item_grown w log (item ∷ [])) 0 log below (omega arith) items) (is_item_grown w log (item ∷ []) (length log) item le (omega arith) is)
 
 -- the same of what fits
 fits_grown : (w : Setting) (log more : Log) (n : ℕ) (item : Item) → IsPlaced n item → n ≤ length log → FitsLog w log item → FitsLog w (log ++ more) item
 fits_grown w log more n (CallItem call) below le is = subst (λ (ps : Catalogue). FitsProcedures ps call) (sym (procedures_grown w log more call.snapshot (omega arith))) is
 fits_grown w log more n (AdditionItem p) below le is = is
 
-all_fit_grown : (w : Setting) (log more : Log) (n : ℕ) (items : Log) → IsLogFrom n items → n + length items ≤ length log → AllByRecursion (FitsLog w log) items → AllByRecursion (FitsLog w (log ++ more)) items
-all_fit_grown w log more n [] below le all = tt
-all_fit_grown w log more n (item ∷ items) below le all =
-    (fits_grown w log more n item below.0 (omega arith) all.0, all_fit_grown w log more (suc n) items below.1 (omega arith) all.1)
-
-fit_snoc : (w : Setting) (whole items : Log) (item : Item) → AllByRecursion (FitsLog w whole) items → FitsLog w whole item → AllByRecursion (FitsLog w whole) (items ++ item ∷ [])
-fit_snoc w whole [] item all is = (is, tt)
-fit_snoc w whole (first ∷ items) item all is = (all.0, fit_snoc w whole items item all.1 is)
-
 pub all_fit_snoc : (w : Setting) (log : Log) (item : Item) → IsLog log → AllFitLog w log → IsPlaced (length log) item → FitsLog w log item → AllFitLog w (log ++ item ∷ [])
 all_fit_snoc w log item below items le is =
-    fit_snoc w (log ++ item ∷ []) log item (all_fit_grown w log (item ∷ []) 0 log below (omega arith) items) (fits_grown w log (item ∷ []) (length log) item le (omega arith) is)
+    all_snoc (FitsLog w (log ++ item ∷ [])) log item (all_grown (FitsLog w) log (item ∷ []) (fits_grown w log (item ∷ [])) 0 log below (omega arith) items) (fits_grown w log (item ∷ []) (length log) item le (omega arith) is)
 
 -- there is a verdict on each item, and on no number beyond
 pub verdict_within : (w : Setting) (log : Log) (d : ℕ) (v : Verdict) → verdict_of w log (suc d) ≡ Some v → d < length log

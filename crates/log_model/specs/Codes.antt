@@ -4,13 +4,19 @@ use Rattle.std.specs.Coded.{Coded, code_by, coded×, coded_ℕ, coded_list, code
 use Rattle.bpf_code.specs.Program.{Program}
 use Rattle.bpf_code.specs.contracts.instruction.Instruction as instruction
 use Rattle.log_model.specs.declared.request.RequestId.{RequestId}
-use Rattle.log_model.specs.Log.{StoredProcedure, Call}
+use Rattle.log_model.specs.Log.{StoredProcedure, DoneRequest, Call}
 
 abbrev request_code : Coded RequestId
 request_code = code_by (ℕ × ℕ) (coded× coded_ℕ coded_ℕ) (λ r. (r.session, r.sequence)) (λ c. record { session = c.0; sequence = c.1 }) (λ _. refl)
 
 abbrev pub carried_code : Coded (Option RequestId)
 carried_code = coded_option request_code
+
+abbrev pub done_code : Coded DoneRequest
+done_code = code_by (RequestId × (ℕ × (ℕ × List ℕ))) (coded× request_code (coded× coded_ℕ (coded× coded_ℕ (coded_list coded_ℕ))))
+    (λ d. (d.request, (d.reply, (d.procedure, d.args))))
+    (λ c. record { request = c.0; reply = c.1.0; procedure = c.1.1.0; args = c.1.1.1 })
+    (λ _. refl)
 
 abbrev pub stored_code : Coded StoredProcedure
 stored_code = code_by (List ℕ × (ℕ × (Program × ℕ)))

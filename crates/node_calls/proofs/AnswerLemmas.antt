@@ -1,12 +1,13 @@
 -- What a call is answered by its verdict.
-use Rattle.std.proofs.Common.{◌≡◌, ◌⊎◌, inl, inr, ℕ, zero, suc, ◌+◌, ◌-◌, ◌≤◌, Bool, true, false, cond, nat_le, drop, List, [], ◌∷◌, ◌++◌, length, length-append, slice_get, Option, Some, None, refl, sym, ap, subst, ◌∙◌, arith}
+use Rattle.std.proofs.Common.{◌≡◌, ◌⊎◌, inl, inr, ℕ, zero, suc, ◌+◌, ◌-◌, ◌≤◌, Bool, true, false, cond, nat_le, drop, List, [], ◌∷◌, ◌++◌, length, length-append, slice_get, Option, Some, None, is_some, refl, sym, ap, subst, ◌∙◌, arith}
+use Rattle.std.specs.Prelude.{◌≢◌, IsTrue}
+use Rattle.std.specs.Option.{option_map}
 use Rattle.log_model.specs.declared.verdict.Identifier.{Identifier}
 use Rattle.log_model.specs.declared.verdict.Verdict.{Verdict}
 use Rattle.log_model.specs.declared.verdict.Verdict.TheVariants.{Stale, Repeated, Taken}
 use Rattle.schema.specs.declared.look.Look.{Look}
-use Rattle.log_model.specs.Log.{DoneRequest, was_done, CertifiedItem, first_position, first_repeated, conflicts, verdict_after, Setting, Call, Item, CallItem, Log, IsLog, verdict_of, unless_repeated, unless_conflict}
+use Rattle.log_model.specs.Log.{DoneRequest, CertifiedItem, first_position, first_repeated, conflicts, verdict_after, Setting, Call, Item, CallItem, Log, IsLog, verdict_of, unless_repeated, unless_conflict}
 use Rattle.log_model.specs.Entries.{ExecutedCall, item_of, items_of}
-use Rattle.log_model.specs.OpenRequest.{has_zero}
 use Rattle.log_model.specs.Verdicts.{IsRepeated}
 use Rattle.log_model.specs.Entries.{Entry, CallEntry, certified_entry, certified_entries_of}
 use Rattle.log_entry.specs.declared.entry.Entry.{Entry as LogEntry}
@@ -15,8 +16,7 @@ use Rattle.log_entry.specs.Kind.{entry_of}
 use Rattle.replica.specs.Replica.{AreEntriesOf, entries_of}
 use Rattle.locked_replica.proofs.EntryLemmas.{entries_append, entries_count}
 use Rattle.node_calls.specs.Running.{log_seen}
-use Rattle.node_calls.specs.Asked.{AskedCall}
-use Rattle.node_calls.specs.Answer.{IsAppended, IsOrderedAt, IsVerdict, asked_call}
+use Rattle.node_calls.specs.Answer.{IsAppended, IsVerdict, WasDoneAt}
 
 abbrev just : {X : Type 0} → X → Option X
 just x = Some x
@@ -38,9 +38,6 @@ module _ {A : Type 0} where
   last_at (x ∷ before) e = last_at before e
 
   -- ---- the entry that was seen last
-
-  abbrev pub ordered_at : (w : Setting) (a : AskedCall) (e : ExecutedCall) (position : ℕ) (seen : List (LogEntry A)) → IsAppended w e position seen → e.call ≡ asked_call a e.call.snapshot → a.least ≤ e.call.snapshot → has_zero a.request ≡ false → IsOrderedAt w a position seen
-  ordered_at w a e position seen appended call least whole = record { entry = e; appended = appended; call = call; least = least; whole = whole }
 
   pub verdict_here : (w : Setting) (e : ExecutedCall) (position : ℕ) (seen : List (LogEntry A)) (v : Verdict) → IsAppended w e position seen → IsVerdict w (length seen) seen v → IsVerdict w position seen v
   verdict_here w e position seen v appended known = subst (λ (n : ℕ). IsVerdict w n seen v) (sym appended.place) known
@@ -87,21 +84,24 @@ module _ {A : Type 0} (w : Setting) (e : ExecutedCall) (position : ℕ) (seen : 
   abbrev pub RepeatsACall : Type 0
   RepeatsACall = (log : Log) (d : ℕ) (call : Call) (earlier : ℕ) → IsLog log → slice_get log d ≡ Some (CallItem call) → verdict_of w log (suc d) ≡ Some (Repeated earlier) → IsRepeated w log call earlier (suc d)
 
-  pub repeated : (law : RepeatsACall) (earlier : ℕ) → w.beginning.requests ≡ [] → IsAppended w e position seen → IsVerdict w (length seen) seen (Repeated earlier)
-      → (1 ≤ earlier) × (earlier ≤ length seen) × ((call : Call) × (slice_get (log_seen seen) (earlier - 1) ≡ Some (CallItem call)))
-  repeated law earlier none_before a known =
+  pub repeated : (law : RepeatsACall) (earlier : ℕ) → IsAppended w e position seen → IsVerdict w (length seen) seen (Repeated earlier) → WasDoneAt w seen e.call.request earlier
+  repeated law earlier a known =
       by (law (log_seen seen) (length a.before) e.call earlier known.entries.log (last_item w e position seen a) (verdict_last w e position seen (Repeated earlier) a known))
     where
-      by : IsRepeated w (log_seen seen) e.call earlier (suc (length a.before))
-          → (1 ≤ earlier) × (earlier ≤ length seen) × ((call : Call) × (slice_get (log_seen seen) (earlier - 1) ≡ Some (CallItem call)))
-      by (inl done) = absurd (let bad : false ≡ true = ap (λ ds. was_done ds e.call.request) (sym none_before) ∙ done.0 in cc)
+      by : IsRepeated w (log_seen seen) e.call earlier (suc (length a.before)) → WasDoneAt w seen e.call.request earlier
+      by (inl done) = inl (done.1, done.0)
       by (inr r) =
           let all = count w e position seen a in
-          let place : earlier - 1 ≡ r.before = let p = r.place in omega arith in (
+          let place : earlier - 1 ≡ r.before = let p = r.place in omega arith in inr (
             (let p = r.place in omega arith),
             (let p = r.earlier in omega arith),
             (r.first, ap (slice_get (log_seen seen)) place ∙ r.stands),
           )
+
+-- a request that was done before has a reply
+pub has_reply : (o : Option DoneRequest) → IsTrue (is_some o) → (reply : Option ℕ) → reply ≡ option_map (λ d. d.reply) o → reply ≢ None
+has_reply None done reply is none = absurd cc
+has_reply (Some d) done reply is none = let bad : Some d.reply ≡ None = sym is ∙ none in cc
 
 -- ---- an addition is no call
 

@@ -1,10 +1,10 @@
 -- What a call is answered, and what was seen of the log then.
-use Rattle.std.specs.Prelude.{◌≡◌, ◌⊎◌, ℕ, suc, ◌≤◌, false, List, [], ◌∷◌, ◌++◌, length, take, slice_get, Option, Some, None, Err}
+use Rattle.std.specs.Prelude.{◌≡◌, ◌⊎◌, ℕ, suc, ◌-◌, ◌≤◌, false, IsTrue, List, [], ◌∷◌, ◌++◌, length, take, slice_get, Option, Some, None, Err}
 use Rattle.std.specs.FinMap.{len}
 use Rattle.log_model.specs.declared.request.RequestId.{RequestId}
 use Rattle.log_model.specs.declared.verdict.Verdict.{Verdict}
 use Rattle.log_model.specs.declared.verdict.Verdict.TheVariants as verdict
-use Rattle.log_model.specs.Log.{Setting, Call, reply_done, verdict_of, run_in}
+use Rattle.log_model.specs.Log.{Setting, Call, CallItem, was_done, reply_done, verdict_of, run_in}
 use Rattle.log_model.specs.Fit.{IsCall}
 use Rattle.log_model.specs.Entries.{ExecutedCall}
 use Rattle.log_entry.specs.declared.entry.Entry.{Entry as LogEntry}
@@ -56,6 +56,12 @@ pub record IsReplyAt {A : Type 0} (seen : List (LogEntry A)) (position reply : �
   pub stands : slice_get seen before ≡ Some (entry.Call e)
   pub replied : reply ≡ e.reply
 
+-- a request was done at this position: before the log, which is 0, or by a call that stands there
+abbrev pub WasDoneAt : {A : Type 0} → Setting → List (LogEntry A) → Option RequestId → ℕ → Type 0
+WasDoneAt w seen request position =
+    ((position ≡ 0) × IsTrue (was_done w.beginning.requests request))
+    ⊎ ((1 ≤ position) × (position ≤ length seen) × ((call : Call) × (slice_get (log_seen seen) (position - 1) ≡ Some (CallItem call))))
+
 -- a request was done at this position, with this reply: before the log, which is 0, or by the call there
 abbrev pub IsReplyTo : {A : Type 0} → Setting → List (LogEntry A) → Option RequestId → ℕ → ℕ → Type 0
 IsReplyTo w seen request position reply =
@@ -98,9 +104,8 @@ IsAnswer w a NoMemory None = Unit {0}
 IsAnswer w a Full None = Unit {0}
 IsAnswer w a answer seen = ⊥
 
--- what became of the last entry that was seen, where that is known for good. Where the verdict is, no request was done before
--- the log
+-- what became of the last entry that was seen, where that is known for good
 abbrev pub IsFinal : {A : Type 0} → Setting → List (LogEntry A) → Found → Type 0
-IsFinal w seen (found.Verdict v) = IsVerdict w (length seen) seen v × (w.beginning.requests ≡ [])
+IsFinal w seen (found.Verdict v) = IsVerdict w (length seen) seen v
 IsFinal w seen found.Stopped = Unit {0}
 IsFinal w seen found.NotYet = ⊥

@@ -13,7 +13,7 @@ use crate::answer::Answer;
 use crate::asked::Asked;
 use crate::bells::{Bells, Waiter};
 use crate::gate::Gate;
-use crate::order::answer_by;
+use crate::node_catalogue::NodeCatalogue;
 use crate::run::{Ran, run};
 use crate::served::ServedReplica;
 use locked_replica::{Begin, BegunCall, LogSetting, OrderedEntries};
@@ -32,6 +32,7 @@ where
     /// The allocator for what calls take.
     pub alloc: P,
     pub log: &'a OrderLog<J, OrderedEntries<J>, P>,
+    pub catalogue: &'a NodeCatalogue<J, P>,
     pub served: &'a ServedReplica<J, A, P>,
     pub gate: &'a G,
     pub waiter: &'a Waiter,
@@ -142,7 +143,7 @@ impl<'a, J: LogSetting, A: Allocator + Copy, P: Allocator + Copy, G: Gate> Execu
         match self.order(&mut seen, entry) {
             Ok(position) => {
                 let found = self.await_verdict(rt, &seen);
-                let answer = answer_by(self.log, &seen, position, reply, found);
+                let answer = self.answer_by(asked, &seen, position, reply, found);
                 (answer, Some(seen))
             }
             Err(AppendFault::Full) => (Answer::Full, None),

@@ -10,6 +10,7 @@ pub use executor::Executor;
 pub use gate::{Gate, OpenGate};
 pub use helpers::calls_row_helper;
 pub use looking::{LOOKS, SPINS, pause};
+pub use node_catalogue::NodeCatalogue;
 pub use served::{Batch, ServedReplica};
 
 mod answer;
@@ -19,6 +20,7 @@ mod executor;
 mod gate;
 mod helpers;
 mod looking;
+mod node_catalogue;
 mod order;
 mod run;
 mod running;

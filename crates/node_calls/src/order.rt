@@ -1,23 +1,22 @@
 //! A call is ordered, and its verdict awaited.
 
-ghost use Rattle.std.specs.Prelude.{◌≡◌, ◌≢◌, ◌-◌, ◌≤◌, [], false, length, slice_get, IfOk, Some, Err};
-ghost use Rattle.log_model.specs.OpenRequest.{has_zero};
+ghost use Rattle.std.specs.Prelude.{◌≡◌, ◌≢◌, ◌-◌, ◌≤◌, length, slice_get, IfOk, Some, Err};
 ghost use Rattle.log_model.specs.Log.{Call, CallItem};
-ghost use Rattle.log_model.specs.Entries.{ExecutedCall as Executed};
 ghost use Rattle.order_log.specs.declared.fault.AppendFault.TheVariants.{SnapshotUnseen};
 ghost use Rattle.replica.specs.Replica.{entries_of};
 ghost use Rattle.locked_replica.specs.Ordered.{IsOrderedCall};
 ghost use Rattle.node_calls.specs.Running.{log_seen};
-ghost use Rattle.node_calls.specs.Asked.{AskedCall};
-ghost use Rattle.node_calls.specs.Answer.{IsAppended, IsReplyAt, IsVerdict, IsAnswer, IsFinal, asked_call};
+ghost use Rattle.node_calls.specs.Answer.{IsAppended, IsOrderedAt, IsReplyAt, IsReplyTo, IsVerdict, IsAnswer, IsFinal, WasDoneAt};
 
 use crate::answer::Answer;
+use crate::asked::Asked;
 use crate::executor::Executor;
 use crate::gate::Gate;
 use crate::looking::{LOOKS, pause};
+use crate::node_catalogue::NodeCatalogue;
 use locked_replica::{Found, LogSetting, OrderedEntries};
 use log_entry::{Entry, ExecutedCall};
-use log_model::{Verdict, verdicts_in_words_of_the_log};
+use log_model::{RequestId, Verdict, verdicts_in_words_of_the_log};
 use order_log::{AppendFault, Fact, OrderLog, Seen};
 use replica::replicas_follow_the_log;
 use std::alloc::Allocator;
@@ -101,54 +100,79 @@ fn reply_at<J: LogSetting, P: Allocator + Copy>(
     }
 }
 
-/// The answer to the call that was seen last, by its verdict.
-fn answer_of<J: LogSetting, P: Allocator + Copy>(
+/// The reply of a request that was done at a position that was seen, or before the log.
+fn reply_to<J: LogSetting, P: Allocator + Copy>(
     log: &OrderLog<J, OrderedEntries<J>, P>,
+    catalogue: &NodeCatalogue<J, P>,
     seen: &Seen<J, P>,
+    request: Option<RequestId>,
     position: u32,
-    reply: u64,
-    verdict: Verdict,
-) -> Answer
-    requires appended { (e : Executed) × IsAppended J.setting e position seen.now }
-    requires known { IsVerdict J.setting (length seen.now) seen.now verdict }
-    requires none_before { J.setting.beginning.requests ≡ [] }
-    ensures { (a : AskedCall) (e : Executed) → IsAppended J.setting e position seen.now
-        → e.call ≡ asked_call a e.call.snapshot → a.least ≤ e.call.snapshot → reply ≡ e.reply
-        → has_zero a.request ≡ false → IsAnswer J.setting a result (Some seen.now) }
+) -> u64
+    requires { WasDoneAt J.setting seen.now request position }
+    ensures { IsReplyTo J.setting seen.now request position result }
 {
-    // Laws:
-    verdicts_in_words_of_the_log();
-    replicas_follow_the_log();
-    match verdict {
-        Verdict::Commit => Answer::Committed { position, reply },
-        Verdict::Conflict(other) => Answer::Conflict { position, other },
-        Verdict::Stale => Answer::Stale,
-        Verdict::Repeated(earlier) => Answer::Repeated {
-            position,
-            earlier,
-            reply: reply_at(log, seen, earlier),
-        },
-        Verdict::Taken(_) => unreachable!(),
+    if position > 0 {
+        return reply_at(log, seen, position);
     }
+    let Some(reply) = catalogue.reply(request) else {
+        unreachable!()
+    };
+    reply
 }
 
-/// The answer to the call that was seen last, by what its replica says of it.
-pub(crate) fn answer_by<J: LogSetting, P: Allocator + Copy>(
-    log: &OrderLog<J, OrderedEntries<J>, P>,
-    seen: &Seen<J, P>,
-    position: u32,
-    reply: u64,
-    found: Found,
-) -> Answer
-    requires appended { (e : Executed) × IsAppended J.setting e position seen.now }
-    requires known { IsFinal J.setting seen.now found }
-    ensures { (a : AskedCall) (e : Executed) → IsAppended J.setting e position seen.now
-        → e.call ≡ asked_call a e.call.snapshot → a.least ≤ e.call.snapshot → reply ≡ e.reply
-        → has_zero a.request ≡ false → IsAnswer J.setting a result (Some seen.now) }
-{
-    match found {
-        Found::Verdict(verdict) => answer_of(log, seen, position, reply, verdict),
-        Found::Stopped => Answer::Stopped { position },
-        Found::NotYet => unreachable!(),
+impl<'a, J: LogSetting, A: Allocator + Copy, P: Allocator + Copy, G: Gate> Executor<
+    'a,
+    J,
+    A,
+    P,
+    G,
+> {
+    /// The answer to a call that was ordered and seen last, by its verdict.
+    fn answer_of(
+        &self,
+        asked: &Asked<P>,
+        seen: &Seen<J, P>,
+        position: u32,
+        reply: u64,
+        verdict: Verdict,
+    ) -> Answer
+        requires ordered { (o : IsOrderedAt J.setting asked.now position seen.now) × (reply ≡ o.entry.reply) }
+        requires known { IsVerdict J.setting (length seen.now) seen.now verdict }
+        ensures { IsAnswer J.setting asked.now result (Some seen.now) }
+    {
+        // Laws:
+        verdicts_in_words_of_the_log();
+        replicas_follow_the_log();
+        match verdict {
+            Verdict::Commit => Answer::Committed { position, reply },
+            Verdict::Conflict(other) => Answer::Conflict { position, other },
+            Verdict::Stale => Answer::Stale,
+            Verdict::Repeated(earlier) => Answer::Repeated {
+                position,
+                earlier,
+                reply: reply_to(self.log, self.catalogue, seen, asked.request, earlier),
+            },
+            Verdict::Taken(_) => unreachable!(),
+        }
+    }
+
+    /// The answer to a call that was ordered and seen last, by what its replica says of it.
+    pub(crate) fn answer_by(
+        &self,
+        asked: &Asked<P>,
+        seen: &Seen<J, P>,
+        position: u32,
+        reply: u64,
+        found: Found,
+    ) -> Answer
+        requires ordered { (o : IsOrderedAt J.setting asked.now position seen.now) × (reply ≡ o.entry.reply) }
+        requires known { IsFinal J.setting seen.now found }
+        ensures { IsAnswer J.setting asked.now result (Some seen.now) }
+    {
+        match found {
+            Found::Verdict(verdict) => self.answer_of(asked, seen, position, reply, verdict),
+            Found::Stopped => Answer::Stopped { position },
+            Found::NotYet => unreachable!(),
+        }
     }
 }

@@ -169,17 +169,18 @@ refused base old new entries is stands =
       procedures = subst (λ (w : ℕ). stored_procedures new.procedures ≡ (certified_entries_of w base entries).procedures) same (ap stored_procedures is.procedures ∙ stands.procedures);
     }
 
--- at first, with no versions
-pub stands_at_first : (catalogue : SystemCatalogue) (r : Replica) → ((s : ℕ) (tables : List Table) → AreEmpty tables → AnswersFrom tables s empty) → ((window s : ℕ) (base : Beginning) → rows_kept window base [] s ≡ base.rows)
-    → r.position ≡ 0 → r.memory.window ≡ r.window → certifier.IsMemoryOf r.memory [] [] → r.versions.horizon ≡ 0 → AreEmpty r.versions.tables → r.certifications ≡ [] → stored_procedures r.procedures ≡ catalogue.procedures
+-- at first
+pub stands_at_first : (catalogue : SystemCatalogue) (r : Replica) → ((window s : ℕ) (base : Beginning) → rows_kept window base [] s ≡ base.rows)
+    → r.position ≡ 0 → r.memory.window ≡ r.window → certifier.IsMemoryOf r.memory catalogue.requests [] → r.versions.horizon ≡ 0 → ((s : ℕ) → AnswersFrom r.versions.tables s catalogue.rows) → r.certifications ≡ []
+    → stored_procedures r.procedures ≡ catalogue.procedures
     → StandsFor (beginning_of catalogue) r []
 unfolding certified_entries_of
-stands_at_first catalogue r answers rows position window memory horizon none certifications procedures = record {
+stands_at_first catalogue r rows position window memory horizon answers certifications procedures = record {
   position = position;
   window = window;
   memory = memory;
   horizon = omega arith;
-  rows = λ s near. moved r.versions.tables s (rows_kept r.window (beginning_of catalogue) [] s) empty (rows r.window s (beginning_of catalogue)) (answers s r.versions.tables none);
+  rows = λ s near. moved r.versions.tables s (rows_kept r.window (beginning_of catalogue) [] s) catalogue.rows (rows r.window s (beginning_of catalogue)) (answers s);
   certifications = record {
     count = ap (λ (l : List Certification). length l) certifications;
     each = λ before e at. let bad : None ≡ Some e = at in cc;

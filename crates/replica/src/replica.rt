@@ -17,6 +17,7 @@ ghost use Rattle.replica.specs.Replica.{certification_of, entries_of, rows_kept,
 ghost use Rattle.replica.specs.Replica.{HasDelivered, HasStopped, HasSameTables};
 
 use crate::at::At;
+use crate::begin::certifier_over;
 use crate::deliver::{Pruning, drop_unseen, take_entry, written_by};
 use crate::laws::{deliveries_are_kept, rows_at_first, tables_take_the_schemas_writes};
 use crate::rebuild::replica_of;
@@ -26,7 +27,7 @@ use certify::{Certification, Certifications, Certifier};
 use log_entry::Entry;
 use log_model::{RequestId, Verdict, entries_suffice};
 use row_sets::Row;
-use rows_mv::{Versions, empty_versions_answer_from_no_rows};
+use rows_mv::Versions;
 use std::alloc::{AllocError, Allocator, Global};
 use std::marker::Model;
 use txn_view::Store;
@@ -70,8 +71,8 @@ impl<A: Allocator + Copy, P: Allocator + Copy> Model for Replica<A, P> {
 }
 
 impl<A: Allocator + Copy, P: Allocator + Copy> Replica<A, P> {
-    /// A replica to which nothing was delivered, for the tables and with the procedures of a catalogue. A call finds
-    /// its rows no more where more entries than the window were delivered since its snapshot.
+    /// A replica to which nothing was delivered, with the tables, rows, requests and procedures of a catalogue. A call
+    /// finds its rows no more where more entries than the window were delivered since its snapshot.
     pub fn new(alloc: A, window: u32, catalogue: &Catalogue<P>) -> Result<Replica<A, P>, AllocError>
         ensures stands { IfOk result (λ r. StandsFor (beginning_of catalogue.now) r []) }
         ensures window { IfOk result (λ r. r.window ≡ window) }
@@ -80,10 +81,9 @@ impl<A: Allocator + Copy, P: Allocator + Copy> Replica<A, P> {
         ensures for_tables { IfOk result (λ r. AreForTables catalogue.now.tables r.procedures) }
     {
         // Laws:
-        empty_versions_answer_from_no_rows();
         rows_at_first();
-        let certifier = Certifier::new(alloc, window)?;
-        let versions = Versions::new(alloc, catalogue.schema())?;
+        let certifier = certifier_over(alloc, window, catalogue.requests().requests())?;
+        let versions = Versions::beginning_with(alloc, catalogue.schema(), catalogue.rows())?;
         let procedures = catalogue.procedures().share(alloc)?;
         Ok(Replica {
             alloc,

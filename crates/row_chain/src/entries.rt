@@ -1,6 +1,6 @@
 //! Keys in order.
 
-ghost use Rattle.std.specs.Prelude.{◌≡◌, ◌<◌, ◌≤◌, ◌+◌, length, take, drop, OnOk, OnErr};
+ghost use Rattle.std.specs.Prelude.{◌≡◌, ◌<◌, ◌≤◌, ◌+◌, nat_le, length, take, drop, OnOk, OnErr};
 ghost use Rattle.std.specs.Prelude.{filter, slice_get, option_map, is_ok, slice_index_or, slice_set, Some, None, IfOk};
 ghost use Rattle.std.specs.Prelude.{IfSome, IfNone, ℕ};
 ghost use Rattle.std.specs.Option.{option_copied};
@@ -33,6 +33,14 @@ pub fn place<A: Allocator>(entries: &[Entry<A>], key: u64) -> usize
         low += 1;
     }
     low
+}
+
+/// Tells whether each key is below this one.
+pub fn ends_below<A: Allocator>(entries: &[Entry<A>], key: u64) -> bool
+    requires { AreRising entries.now }
+    ensures { result ≡ nat_le (length entries.now) (below key entries.now) }
+{
+    entries.len() <= place(entries, key)
 }
 
 /// The row of a key at a position.

@@ -1,11 +1,11 @@
 //! A page: keys in order.
 
-ghost use Rattle.std.specs.Prelude.{◌≡◌, ◌==◌, List, [], ◌∷◌, ◌<◌, ◌≤◌, length, take, drop, slice_get, option_map};
+ghost use Rattle.std.specs.Prelude.{◌≡◌, ◌==◌, List, [], ◌∷◌, ◌<◌, ◌≤◌, nat_le, length, take, drop, slice_get, option_map};
 ghost use Rattle.std.specs.Prelude.{is_ok, slice_index_or, slice_set, Some, None, OnOk, OnErr, IfOk, IfSome, IfNone};
 ghost use Rattle.std.specs.Option.{option_copied};
 ghost use Rattle.row_chain.specs.Version.{row_up_to, HasRoom};
 ghost use Rattle.row_chain.specs.Slots.{Slot, IsReserved, IsPushed, AreRising, chain_at, versions_at, rows_between};
-ghost use Rattle.row_chain.specs.Slots.{begins_by, least_key, with_slot, IsPrunedTo};
+ghost use Rattle.row_chain.specs.Slots.{begins_by, below, least_key, with_slot, IsPrunedTo};
 
 use crate::entries;
 use crate::entry::Entry;
@@ -33,6 +33,14 @@ impl<A: Allocator> Page<A> {
         ensures { result ≡ begins_by key self.now }
     {
         entries::begins_by(&self.entries, key)
+    }
+
+    /// Tells whether each of the page's keys is below this one.
+    pub fn ends_below(&self, key: u64) -> bool
+        requires { AreRising self.now }
+        ensures { result ≡ nat_le (length self.now) (below key self.now) }
+    {
+        entries::ends_below(&self.entries, key)
     }
 
     /// The page's least key, 0 where the page has none.

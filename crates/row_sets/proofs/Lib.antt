@@ -1,3 +1,5 @@
 pub mod WriteLemmas
 pub mod OrderLemmas
 pub mod LeftLemmas
+mod FirstRowsLemmas
+mod FlatRowsLemmas

@@ -10,7 +10,7 @@ ghost use Rattle.rows_mv.specs.Versions.{slots_of, width_of, IsTableReserved, Is
 ghost use Rattle.rows_mv.specs.Versions.{HaveWidths, IsInstalled, IsPrunedAt, IsTablePruned, AreEmpty};
 ghost use Rattle.rows_mv.specs.Versions.{ArePartlyPruned, IsTablePartlyPruned};
 
-use key_table::KeyTable;
+use key_table::{KeyTable, Split};
 use row_sets::{Bytes, WriteSet};
 use schema::Schema;
 use std::alloc::{AllocError, Allocator};
@@ -44,21 +44,24 @@ fn reserve_at<A: Allocator + Copy>(
     alloc: A,
     at: usize,
     key: u64,
+    split: Split,
 ) -> Result<(), AllocError>
     requires { at < length tables.old.items }
     ensures { (d : Table) → IsTableReserved (is_ok result) key (slice_index_or tables.old.items at d)
         (slice_index_or tables.new.items at d)
         × (tables.new.items ≡ slice_set tables.old.items at (slice_index_or tables.new.items at d)) }
 {
-    tables[at].reserve(alloc, key)
+    tables[at].reserve(alloc, key, split)
 }
 
-/// Makes room for one more version of a key. After want of memory each key has the versions it had.
+/// Makes room for one more version of a key. `split` says how a full page takes the key. After want of memory each key
+/// has the versions it had.
 pub fn reserve<A: Allocator + Copy>(
     tables: &mut Vec<KeyTable<A>, A>,
     alloc: A,
     table: usize,
     key: u64,
+    split: Split,
 ) -> Result<(), AllocError>
     requires { table < length tables.old.items }
     ensures versions { (k : Key) → versions_at (slots_of tables.new.items k.0) k.1
@@ -69,7 +72,7 @@ pub fn reserve<A: Allocator + Copy>(
     ensures widths { (t : ℕ) → width_of tables.new.items t ≡ width_of tables.old.items t }
     ensures count { length tables.new.items ≡ length tables.old.items }
 {
-    reserve_at(tables, alloc, table, key)
+    reserve_at(tables, alloc, table, key, split)
 }
 
 fn put_at<A: Allocator>(
@@ -127,7 +130,7 @@ pub fn reserve_each<A: Allocator + Copy, B: Allocator + Copy>(
     ensures count { length tables.new.items ≡ length tables.old.items }
 {
     for (key, _) in writes.iter() {
-        reserve(tables, alloc, usize::from(key.0), key.1)?;
+        reserve(tables, alloc, usize::from(key.0), key.1, Split::Halves)?;
     }
     Ok(())
 }

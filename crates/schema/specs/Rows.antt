@@ -1,8 +1,8 @@
 -- The words for rows: the plain map of rows, what a call looks at, and what it writes.
 use Rattle.std.specs.Prelude.{◌≡◌, ℕ, ◌+◌, ◌<◌, ◌≤◌, ◌^◌, Bool, false, ◌==◌, ◌&&◌, ◌||◌, not, nat_le, if◌then◌else◌, IsTrue, All, List, [], ◌∷◌, length, Option, Some, None, IsSome, slice_get}
-use Rattle.std.specs.List.{list_any}
+use Rattle.std.specs.List.{list_all, list_any}
 use Rattle.std.specs.declared.cmp.Ordering.{Ordering}
-use Rattle.std.specs.Ordering.{nat_cmp, ordering_then}
+use Rattle.std.specs.Ordering.{nat_cmp, ordering_then, is_lt}
 use Rattle.std.specs.FinMap.{FinMap, IsAntisymmetric, nat_cmp-IsAntisymmetric, empty, get, contains_key, insert, remove, retain_keys, len, keys, entries}
 use Rattle.std.specs.Cmp.{IsTotalOrder, nat_cmp_total, on_total, then_total}
 use Rattle.std.proofs.lemmas.Map.Lookups.{exact_pairs}
@@ -45,6 +45,10 @@ pub record IsRow (tables : Tables) (table key : ℕ) (bytes : List ℕ) : Type 0
 -- each row is one of the schema's
 abbrev pub AreRows : Tables → Rows → Type 0
 AreRows tables rows = (table key : ℕ) (bytes : List ℕ) → row_at rows table key ≡ Some bytes → IsRow tables table key bytes
+
+-- whether a key is behind those of all rows, in the order of tables and keys
+abbrev pub is_behind : Rows → Key → Bool
+is_behind rows key = list_all (λ k. is_lt (key_cmp k key)) (keys rows)
 
 -- ---- looks
 

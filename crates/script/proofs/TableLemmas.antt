@@ -5,7 +5,7 @@ use Rattle.schema.specs.declared.fault.SchemaFault.{SchemaFault}
 use Rattle.catalogue.specs.Catalogue.{SystemCatalogue}
 use Rattle.script.specs.declared.cause.FaultCause.{FaultCause}
 use Rattle.script.specs.declared.cause.FaultCause.TheVariants.{Table, Place, NoMemory}
-use Rattle.script.specs.Settings.{caused, then_with, without_procedures, with_table}
+use Rattle.script.specs.Settings.{caused, then_with, only_tables, has_only_tables, with_table}
 use Rattle.schema.specs.Schema.{Tables, fault_of, fault_or, with_pairs, schema_of}
 
 abbrev tables_or : Tables → Result Tables SchemaFault → Tables
@@ -30,22 +30,22 @@ with_pairs-append (x ∷ xs) ys before tables e =
 pub schema_of-append : (xs ys : List (ℕ × ℕ)) (tables : Tables) → schema_of xs ≡ Ok tables → schema_of (xs ++ ys) ≡ with_pairs ys tables
 schema_of-append xs ys tables e = with_pairs-append xs ys empty tables e
 
--- what one more pair comes to, where there are no procedures
+-- what one more pair comes to, where there are only tables
 abbrev after_pair : Bool → Result Tables SchemaFault → Result SystemCatalogue FaultCause
-after_pair empty pair = if empty then then_with (caused Table pair) without_procedures else Err Place
+after_pair empty pair = if empty then then_with (caused Table pair) only_tables else Err Place
 
-pub with_table-by_schema : (c : SystemCatalogue) (pairs more : List (ℕ × ℕ)) (table width : ℕ) → schema_of pairs ≡ Ok c.tables → more ≡ pairs ++ (table, width) ∷ [] → (length c.procedures == 0) ≡ true → with_table c table width ≡ then_with (caused Table (schema_of more)) without_procedures
+pub with_table-by_schema : (c : SystemCatalogue) (pairs more : List (ℕ × ℕ)) (table width : ℕ) → schema_of pairs ≡ Ok c.tables → more ≡ pairs ++ (table, width) ∷ [] → has_only_tables c ≡ true → with_table c table width ≡ then_with (caused Table (schema_of more)) only_tables
 with_table-by_schema c pairs more table width e m none =
     ap (λ (empty : Bool). after_pair empty (with_pairs ((table, width) ∷ []) c.tables)) none
     ∙ ap (after_pair true) (sym (schema_of-append pairs ((table, width) ∷ []) c.tables e) ∙ ap schema_of (sym m))
 
-pub with_table-made : (c : SystemCatalogue) (pairs more : List (ℕ × ℕ)) (table width : ℕ) (tables : Tables) → schema_of pairs ≡ Ok c.tables → more ≡ pairs ++ (table, width) ∷ [] → (length c.procedures == 0) ≡ true → schema_of more ≡ Ok tables → with_table c table width ≡ Ok (record { tables = tables; procedures = [] })
+pub with_table-made : (c : SystemCatalogue) (pairs more : List (ℕ × ℕ)) (table width : ℕ) (tables : Tables) → schema_of pairs ≡ Ok c.tables → more ≡ pairs ++ (table, width) ∷ [] → has_only_tables c ≡ true → schema_of more ≡ Ok tables → with_table c table width ≡ Ok (record { tables = tables; rows = empty; requests = []; procedures = [] })
 with_table-made c pairs more table width tables e m none made =
-    with_table-by_schema c pairs more table width e m none ∙ ap (λ (r : Result Tables SchemaFault). then_with (caused Table r) without_procedures) made
+    with_table-by_schema c pairs more table width e m none ∙ ap (λ (r : Result Tables SchemaFault). then_with (caused Table r) only_tables) made
 
-pub with_table-refused : (c : SystemCatalogue) (pairs more given : List (ℕ × ℕ)) (table width : ℕ) (cause : FaultCause) → schema_of pairs ≡ Ok c.tables → more ≡ pairs ++ (table, width) ∷ [] → (length c.procedures == 0) ≡ true → given ≡ more
+pub with_table-refused : (c : SystemCatalogue) (pairs more given : List (ℕ × ℕ)) (table width : ℕ) (cause : FaultCause) → schema_of pairs ≡ Ok c.tables → more ≡ pairs ++ (table, width) ∷ [] → has_only_tables c ≡ true → given ≡ more
     → (cause ≡ NoMemory) ⊎ (caused Table (schema_of given) ≡ Err cause) → (cause ≡ NoMemory) ⊎ (with_table c table width ≡ Err cause)
 with_table-refused c pairs more given table width cause e m none same (inl out) = inl out
 with_table-refused c pairs more given table width cause e m none same (inr told) =
-    inr (with_table-by_schema c pairs more table width e m none ∙ ap (λ (xs : List (ℕ × ℕ)). then_with (caused Table (schema_of xs)) without_procedures) (sym same)
-    ∙ ap (λ (r : Result Tables FaultCause). then_with r without_procedures) told)
+    inr (with_table-by_schema c pairs more table width e m none ∙ ap (λ (xs : List (ℕ × ℕ)). then_with (caused Table (schema_of xs)) only_tables) (sym same)
+    ∙ ap (λ (r : Result Tables FaultCause). then_with r only_tables) told)

@@ -1,11 +1,12 @@
 -- What a line says, by what its fields say.
-use Rattle.std.specs.Prelude.{ℕ, not, if◌then◌else◌, List, [], ◌∷◌, Option, Some, None, Result, Ok, Err}
+use Rattle.std.specs.Prelude.{ℕ, nat_le, not, if◌then◌else◌, List, [], ◌∷◌, length, Option, Some, None, Result, Ok, Err}
 use Rattle.std.specs.Str.{bytes_eq}
 use Rattle.schema.specs.declared.limits.TheConstants.{MAX_ARGUMENTS}
 use Rattle.script.specs.declared.fault.LineFault.{LineFault}
 use Rattle.script.specs.declared.fault.LineFault.TheVariants as fault
 use Rattle.script.specs.declared.procedure_fields.ProcedureFields.{ProcedureFields}
-use Rattle.script.specs.Text.{is_readable, is_skipped, fields_of, number_of, u16_of, bytes_of_hex}
+use Rattle.script.specs.declared.request_fields.RequestFields.{RequestFields}
+use Rattle.script.specs.Text.{is_readable, is_skipped, fields_of, number_of, count_of, u16_of, u32_of, u64_of, bytes_of_hex}
 
 -- the word that is spelled so, where a table has one
 abbrev pub word_spelled : {W : Type 0} → List (List ℕ × W) → List ℕ → Option W
@@ -30,6 +31,21 @@ three make _ _ _ = Err fault.Field
 abbrev pub four : {X Y Z V R : Type 0} → (X → Y → Z → V → R) → Option X → Option Y → Option Z → Option V → Result R LineFault
 four make (Some x) (Some y) (Some z) (Some v) = Ok (make x y z v)
 four make _ _ _ _ = Err fault.Field
+
+abbrev pub five : {X Y Z V W R : Type 0} → (X → Y → Z → V → W → R) → Option X → Option Y → Option Z → Option V → Option W → Result R LineFault
+five make (Some x) (Some y) (Some z) (Some v) (Some w) = Ok (make x y z v w)
+five make _ _ _ _ _ = Err fault.Field
+
+-- as many bytes as a call's arguments may be
+abbrev pub few_bytes : Option (List ℕ) → Option (List ℕ)
+few_bytes (Some bytes) = if nat_le (length bytes) MAX_ARGUMENTS then Some bytes else None
+few_bytes None = None
+
+-- the fields of a request that was done: its session, its number, the reply, and the number of the procedure and the arguments
+abbrev pub request_said : List ℕ → List ℕ → List ℕ → List ℕ → List ℕ → Result (RequestFields (List ℕ)) LineFault
+request_said session sequence reply procedure args =
+    five (λ s q v n bytes. record { session = s; sequence = q; reply = v; procedure = n; args = bytes })
+    (count_of session) (u32_of sequence) (u64_of reply) (u16_of procedure) (few_bytes (bytes_of_hex args))
 
 -- the fields of a procedure: its name, its number, the length of its arguments and its program
 abbrev pub procedure_said : List ℕ → List ℕ → List ℕ → List ℕ → Result (ProcedureFields (List ℕ)) LineFault

@@ -7,7 +7,7 @@ use Rattle.script.specs.declared.fault.LineFault.TheVariants as fault
 use Rattle.script.specs.declared.statements.Statement.{Statement}
 use Rattle.script.specs.declared.statements.Statement.TheVariants as statement
 use Rattle.script.specs.declared.statements.Setting.{Setting}
-use Rattle.script.specs.declared.statements.Setting.TheVariants.{Window, Replicas, Table, Procedure}
+use Rattle.script.specs.declared.statements.Setting.TheVariants.{Window, Replicas, Table, Procedure, Row, Request}
 use Rattle.script.specs.declared.statements.Action.{Action}
 use Rattle.script.specs.declared.statements.Action.TheVariants.{Begin, BeginNumbered, Add, Turn, Exec, Order, Deliver, Rows, Log, Entry, Rebuild}
 use Rattle.script.specs.declared.word.Word.{Word}
@@ -16,8 +16,8 @@ use Rattle.script.specs.declared.word.SettingWord.{SettingWord}
 use Rattle.script.specs.declared.word.SettingWord.TheVariants as setting
 use Rattle.script.specs.declared.word.ActionWord.{ActionWord}
 use Rattle.script.specs.declared.word.ActionWord.TheVariants as act
-use Rattle.script.specs.Text.{max_line, number_of, u8_of, u16_of, u32_of, count_of, bytes_of_hex}
-use Rattle.script.specs.Line.{word_spelled, one, two, four, made_of, procedure_said, fields_say, says}
+use Rattle.script.specs.Text.{max_line, number_of, u8_of, u16_of, u32_of, u64_of, count_of, bytes_of_hex}
+use Rattle.script.specs.Line.{word_spelled, one, two, three, four, made_of, procedure_said, request_said, fields_say, says}
 
 -- the bytes of its names, programs and arguments are lists
 abbrev pub ScriptStatement : Type 0
@@ -33,7 +33,7 @@ ScriptAction = Action (List ℕ)
 abbrev pub setting_word_of : List ℕ → Option SettingWord
 setting_word_of text = word_spelled (
     (codes "window", setting.Window) ∷ (codes "replicas", setting.Replicas) ∷ (codes "table", setting.Table)
-    ∷ (codes "proc", setting.Proc) ∷ []) text
+    ∷ (codes "proc", setting.Proc) ∷ (codes "row", setting.Row) ∷ (codes "request", setting.Request) ∷ []) text
 
 -- and of lines that act: that take steps, or print what there is
 abbrev pub action_word_of : List ℕ → Option ActionWord
@@ -51,6 +51,8 @@ setting_said setting.Window (window ∷ []) = one Window (number_of 1 MAX_WINDOW
 setting_said setting.Replicas (replicas ∷ []) = one Replicas (number_of 1 MAX_REPLICAS replicas)
 setting_said setting.Table (table ∷ width ∷ []) = two Table (u8_of table) (u16_of width)
 setting_said setting.Proc (name ∷ number ∷ args_len ∷ program ∷ []) = made_of Procedure (procedure_said name number args_len program)
+setting_said setting.Row (table ∷ key ∷ row ∷ []) = three Row (u8_of table) (u64_of key) (bytes_of_hex row)
+setting_said setting.Request (session ∷ sequence ∷ reply ∷ procedure ∷ args ∷ []) = made_of Request (request_said session sequence reply procedure args)
 setting_said _ _ = Err fault.FieldCount
 
 -- a call that carries a request
@@ -88,6 +90,8 @@ IsSettingWithinLimits (Window window) = (1 ≤ window) × (window ≤ MAX_WINDOW
 IsSettingWithinLimits (Replicas replicas) = (1 ≤ replicas) × (replicas ≤ MAX_REPLICAS)
 IsSettingWithinLimits (Table table width) = Unit {0}
 IsSettingWithinLimits (Procedure p) = p.args_len ≤ MAX_ARGUMENTS
+IsSettingWithinLimits (Row table key row) = Unit {0}
+IsSettingWithinLimits (Request r) = 1 ≤ r.session
 
 -- of an action
 abbrev pub IsActionWithinLimits : ScriptAction → Type 0

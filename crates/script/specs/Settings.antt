@@ -1,18 +1,23 @@
 -- What the setting lines of a script have set so far.
-use Rattle.std.specs.Prelude.{ℕ, ◌≤◌, ◌==◌, if◌then◌else◌, List, [], ◌∷◌, ◌++◌, length, Option, Some, None, Result, Ok, Err, IfSome, refl}
+use Rattle.std.specs.Prelude.{ℕ, ◌≤◌, ◌==◌, ◌&&◌, Bool, if◌then◌else◌, List, [], ◌∷◌, ◌++◌, length, Option, Some, None, Result, Ok, Err, IfSome, refl}
 use Rattle.std.specs.Coded.{Coded, code_by, coded×, coded_ℕ, coded_option}
-use Rattle.std.specs.FinMap.{empty}
+use Rattle.std.specs.FinMap.{empty, entries, insert}
 use Rattle.schema.specs.declared.limits.TheConstants.{MAX_REPLICAS, MAX_WINDOW}
 use Rattle.bpf_code.specs.Program.{Program}
 use Rattle.bpf_bytes.specs.Decoding.{program_of}
 use Rattle.schema.specs.Schema.{Tables, with_pairs}
+use Rattle.schema.specs.Rows.{Key}
 use Rattle.bpf_verify.specs.declared.refusal.Refusal.{Refusal}
 use Rattle.bpf_verify.specs.Flow.{Procedure}
+use Rattle.log_model.specs.Log.{DoneRequest}
 use Rattle.catalogue.specs.declared.fault.CatalogueFault.{CatalogueFault}
+use Rattle.catalogue.specs.declared.row_fault.RowFault.{RowFault}
+use Rattle.catalogue.specs.declared.request_fault.RequestFault.TheVariants.{Order}
 use Rattle.catalogue.specs.Catalogue.{stored_of}
 pub use Rattle.catalogue.specs.Catalogue.{SystemCatalogue}
 use Rattle.catalogue.specs.Held.{catalogue_code}
-use Rattle.catalogue.specs.Fault.{fault_of}
+use Rattle.catalogue.specs.Fault.{fault_of, row_fault_of, is_next_session}
+use Rattle.script.specs.declared.request_fields.RequestFields.{RequestFields}
 use Rattle.script.specs.declared.statements.Setting.TheVariants as setting
 use Rattle.script.specs.Script.{ScriptSetting}
 use Rattle.script.specs.declared.cause.FaultCause.{FaultCause}
@@ -26,7 +31,7 @@ pub record ScriptSettings : Type 0 where
 
 -- before the first line
 abbrev pub no_settings : ScriptSettings
-no_settings = record { window = None; replicas = None; catalogue = record { tables = empty; procedures = [] } }
+no_settings = record { window = None; replicas = None; catalogue = record { tables = empty; rows = empty; requests = []; procedures = [] } }
 
 -- ---- what may be at fault
 
@@ -42,13 +47,17 @@ then_with (Err cause) next = Err cause
 
 -- ---- tables and procedures
 
-abbrev pub without_procedures : Tables → Result SystemCatalogue FaultCause
-without_procedures tables = Ok (record { tables = tables; procedures = [] })
+-- these tables, and nothing else
+abbrev pub only_tables : Tables → Result SystemCatalogue FaultCause
+only_tables tables = Ok (record { tables = tables; rows = empty; requests = []; procedures = [] })
 
--- with one more table, which stands before all procedures
+abbrev pub has_only_tables : SystemCatalogue → Bool
+has_only_tables c = (length (entries c.rows) == 0) && (length c.requests == 0) && (length c.procedures == 0)
+
+-- with one more table, which stands before all rows, requests and procedures
 abbrev pub with_table : SystemCatalogue → ℕ → ℕ → Result SystemCatalogue FaultCause
 with_table c table width =
-    if length c.procedures == 0 then then_with (caused cause.Table (with_pairs ((table, width) ∷ []) c.tables)) without_procedures
+    if has_only_tables c then then_with (caused cause.Table (with_pairs ((table, width) ∷ []) c.tables)) only_tables
     else Err cause.Place
 
 abbrev pub unless_refused : Procedure → Option Refusal → Result Procedure FaultCause
@@ -77,6 +86,26 @@ with_procedure c name number args_len bytes =
     then_with (caused cause.Program (program_of bytes)) (λ program.
     then_with (verified (program_for c.tables args_len program)) (stored c name number))
 
+-- ---- rows and requests
+
+abbrev pub unless_row_fault : SystemCatalogue → Option RowFault → Result SystemCatalogue FaultCause
+unless_row_fault c None = Ok c
+unless_row_fault c (Some fault) = Err (cause.Row fault)
+
+-- with one more row behind the others
+abbrev pub with_row : SystemCatalogue → Key → List ℕ → Result SystemCatalogue FaultCause
+with_row c key row =
+    unless_row_fault (record c { rows = insert c.rows key row }) (row_fault_of c.tables c.rows key row)
+
+abbrev pub done_of : RequestFields (List ℕ) → DoneRequest
+done_of r = record { request = record { session = r.session; sequence = r.sequence }; reply = r.reply; procedure = r.procedure; args = r.args }
+
+-- with one more request that was done, behind the others
+abbrev pub with_request : SystemCatalogue → RequestFields (List ℕ) → Result SystemCatalogue FaultCause
+with_request c r =
+    if is_next_session c.requests r.session then Ok (record c { requests = c.requests ++ done_of r ∷ [] })
+    else Err (cause.Request Order)
+
 -- ---- settings
 
 -- what is given once
@@ -92,6 +121,9 @@ setting_after s (setting.Table table width) =
     then_with (with_table s.catalogue table width) (λ catalogue. Ok (record s { catalogue = catalogue }))
 setting_after s (setting.Procedure p) =
     then_with (with_procedure s.catalogue p.name p.number p.args_len p.program) (λ catalogue. Ok (record s { catalogue = catalogue }))
+setting_after s (setting.Row table key row) =
+    then_with (with_row s.catalogue (table, key) row) (λ catalogue. Ok (record s { catalogue = catalogue }))
+setting_after s (setting.Request r) = then_with (with_request s.catalogue r) (λ catalogue. Ok (record s { catalogue = catalogue }))
 
 -- what is known of all settings
 pub record AreWithinLimits (window replicas : Option ℕ) : Type 0 where

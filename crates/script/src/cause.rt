@@ -7,7 +7,7 @@ ghost use Rattle.script.specs.declared.cause.FaultCause.TheVariants.{NoMemory};
 use crate::fault::LineFault;
 use bpf_bytes::DecodeFault;
 use bpf_verify::Refusal;
-use catalogue::CatalogueFault;
+use catalogue::{CatalogueFault, RequestFault, RowFault};
 use schema::SchemaFault;
 use std::alloc::AllocError;
 use std::error::Error;
@@ -29,6 +29,10 @@ pub enum FaultCause {
     /// The procedure can't be stored.
     Procedure(CatalogueFault),
     NoMemory,
+    /// The row can't be put.
+    Row(RowFault),
+    /// The request that was done can't be put.
+    Request(RequestFault),
 }
 
 impl fmt::Display for FaultCause {
@@ -49,6 +53,8 @@ impl fmt::Display for FaultCause {
             FaultCause::Refused(refusal) => write!(f, "L7 {refusal}"),
             FaultCause::Procedure(fault) => write!(f, "L8 {fault}"),
             FaultCause::NoMemory => write!(f, "L9"),
+            FaultCause::Row(fault) => write!(f, "L10 {fault}"),
+            FaultCause::Request(fault) => write!(f, "L11 {fault}"),
         }
     }
 }

@@ -10,8 +10,11 @@ use crate::fields::read_name;
 use crate::hex_field::read_hex;
 use crate::input::MAX_LINE;
 use crate::meaning::{LineMeaning, LineResult, read_line};
-use crate::number::{read_count, read_replicas, read_u8, read_u16, read_u32, read_window};
+use crate::number::{
+    read_count, read_replicas, read_u8, read_u16, read_u32, read_u64, read_window,
+};
 use crate::procedure_fields::read_procedure;
+use crate::request_fields::read_request;
 use crate::statements::{Action, Setting, Statement};
 use crate::word::{ActionWord, SettingWord, Word};
 use row_sets::Bytes;
@@ -57,6 +60,15 @@ impl<A: Allocator + Copy> LineMeaning<A, SettingWord> for Setting<Bytes<A>> {
             (SettingWord::Proc, [name, number, args_len, program]) => {
                 let procedure = read_procedure(alloc, name, number, args_len, program)?;
                 Ok(Setting::Procedure(procedure))
+            }
+            (SettingWord::Row, [table, key, row]) => Ok(Setting::Row {
+                table: read_u8(table)?,
+                key: read_u64(key)?,
+                row: read_hex(alloc, row)?,
+            }),
+            (SettingWord::Request, [session, sequence, reply, procedure, args]) => {
+                let request = read_request(alloc, session, sequence, reply, procedure, args)?;
+                Ok(Setting::Request(request))
             }
             _ => Err(LineFault::FieldCount),
         }

@@ -6,6 +6,7 @@ ghost use Rattle.script.specs.Script.{IsSettingWithinLimits};
 ghost use Rattle.script.specs.Settings.{no_settings, once, setting_after};
 ghost use Rattle.script.specs.declared.cause.FaultCause.TheVariants.{NoMemory};
 
+use crate::beginning::{add_request, add_row};
 use crate::cause::FaultCause;
 use crate::procedure::add_procedure;
 use crate::statements::Setting;
@@ -81,6 +82,10 @@ impl<A: Allocator + Copy> Settings<A> {
                 procedure.args_len,
                 procedure.program.as_slice(),
             ),
+            Setting::Row { table, key, row } => {
+                add_row(&mut self.catalogue, table, key, row.as_slice())
+            }
+            Setting::Request(request) => add_request(&mut self.catalogue, &request),
         }
     }
 
@@ -102,7 +107,7 @@ impl<A: Allocator + Copy> Settings<A> {
         self.replicas
     }
 
-    /// The tables and the procedures.
+    /// The tables, and all that the database begins with.
     pub fn into_catalogue(self) -> Catalogue<A>
         ensures { result ≡ self.catalogue }
     {

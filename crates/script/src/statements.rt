@@ -1,6 +1,7 @@
 //! The statements of lines.
 
 use crate::procedure_fields::ProcedureFields;
+use crate::request_fields::RequestFields;
 
 /// A statement of a line: the line sets something, or it acts. Names, programs and arguments are a `B`.
 #[derive(Drop)]
@@ -19,6 +20,10 @@ pub enum Setting<B> {
     /// The number of a table, and the width of its rows.
     Table { table: u8, width: u16 },
     Procedure(ProcedureFields<B>),
+    /// A row that is there at first.
+    Row { table: u8, key: u64, row: B },
+    /// A request that was done before.
+    Request(RequestFields<B>),
 }
 
 /// An action of a line: a step of a world, or a print of it.

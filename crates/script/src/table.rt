@@ -1,8 +1,9 @@
 //! One more table.
 
 ghost use Rattle.std.specs.Prelude.{◌≡◌, ◌⊎◌, ◌==◌, ◌∷◌, ◌++◌, [], length, Ok, Err, IfOk, IfErr, OnOk, OnErr};
+ghost use Rattle.std.specs.FinMap.{entries};
 ghost use Rattle.schema.specs.Schema.{schema_of};
-ghost use Rattle.script.specs.Settings.{caused, with_table};
+ghost use Rattle.script.specs.Settings.{caused, has_only_tables, with_table};
 ghost use Rattle.script.specs.declared.cause.FaultCause.TheVariants.{NoMemory, Table};
 
 use crate::cause::FaultCause;
@@ -10,7 +11,7 @@ use catalogue::Catalogue;
 use schema::{Schema, SchemaFault};
 use std::alloc::{AllocError, Allocator};
 
-/// Adds a table to a catalogue that has no procedures yet. `pairs` are its tables with their widths, as they were
+/// Adds a table to a catalogue that has only tables yet. `pairs` are its tables with their widths, as they were
 /// given.
 pub(crate) fn add_table<A: Allocator + Copy>(
     pairs: &mut Vec<(u8, u16), A>,
@@ -24,7 +25,7 @@ pub(crate) fn add_table<A: Allocator + Copy>(
     ensures fault { IfErr result (λ cause. (cause ≡ NoMemory) ⊎ (with_table catalogue.old table width ≡ Err cause)) }
     ensures unchanged { OnErr result (catalogue.new ≡ catalogue.old) }
 {
-    if !is_empty(catalogue) {
+    if !has_only_tables(catalogue) {
         return Err(FaultCause::Place);
     }
     let alloc = *pairs.allocator();
@@ -35,11 +36,35 @@ pub(crate) fn add_table<A: Allocator + Copy>(
     Ok(())
 }
 
+/// Tells whether a catalogue has no rows.
+fn has_no_rows<A: Allocator + Copy>(catalogue: &Catalogue<A>) -> bool
+    ensures { result ≡ (length (entries catalogue.now.rows) == 0) }
+{
+    catalogue.rows().is_empty()
+}
+
+/// Tells whether a catalogue has no requests.
+fn has_no_requests<A: Allocator + Copy>(catalogue: &Catalogue<A>) -> bool
+    ensures { result ≡ (length catalogue.now.requests == 0) }
+{
+    catalogue.requests().requests().is_empty()
+}
+
 /// Tells whether a catalogue has no procedures.
-fn is_empty<A: Allocator + Copy>(catalogue: &Catalogue<A>) -> bool
+fn has_no_procedures<A: Allocator + Copy>(catalogue: &Catalogue<A>) -> bool
     ensures { result ≡ (length catalogue.now.procedures == 0) }
 {
     catalogue.list().next().is_none()
+}
+
+/// Tells whether a catalogue has no rows, no requests and no procedures.
+fn has_only_tables<A: Allocator + Copy>(catalogue: &Catalogue<A>) -> bool
+    ensures { result ≡ has_only_tables catalogue.now }
+{
+    if !has_no_rows(catalogue) || !has_no_requests(catalogue) {
+        return false;
+    }
+    has_no_procedures(catalogue)
 }
 
 /// The pairs and one more.

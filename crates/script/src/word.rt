@@ -33,6 +33,8 @@ pub enum SettingWord {
     Replicas,
     Table,
     Proc,
+    Row,
+    Request,
 }
 
 /// The word of a line that acts.
@@ -62,6 +64,10 @@ fn setting_word(text: &str) -> Option<SettingWord>
         SettingWord::Table
     } else if text == "proc" {
         SettingWord::Proc
+    } else if text == "row" {
+        SettingWord::Row
+    } else if text == "request" {
+        SettingWord::Request
     } else {
         return None;
     })

@@ -7,11 +7,11 @@ use Rattle.schema.specs.Rows.{Writes}
 use Rattle.std.proofs.lemmas.Bool.Decides.{nat_tests}
 use Rattle.log_model.specs.declared.verdict.Verdict.{Verdict}
 use Rattle.log_model.specs.declared.verdict.Verdict.TheVariants.{Repeated}
-use Rattle.log_model.specs.Log.{Beginning, StoredProcedure, Setting, Catalogue, Item, Log, CertifiedItem, IsLog, run_in, verdict_of, history}
+use Rattle.log_model.specs.Log.{Beginning, StoredProcedure, Setting, Catalogue, Item, Log, CertifiedItem, IsLog, reply_done, run_in, verdict_of, history}
 use Rattle.certify.specs.Comparisons.{comparisons_after}
 use Rattle.log_model.specs.Entries.{ExecutedCall, Entry, CallEntry, AdditionEntry, item_of, items_of, IsCarried, CarryRuns, CertifiedEntries, certified_entry, certified_entries_of}
 use Rattle.dsm_model.specs.World.{numbered}
-use Rattle.dsm_model.specs.Sound.{reply_of, told_by}
+use Rattle.dsm_model.specs.Sound.{reply_of, request_of_item, told_by}
 use Rattle.certify.specs.declared.certification.Certification.{Certification}
 use Rattle.replica.specs.Replica.{Replica, AreEntriesOf, StandsFor, certification_of}
 use Rattle.replica.proofs.KeepsLemmas.{certified_more, certified_count, done_stays}
@@ -64,10 +64,24 @@ no_reply_there w entries n p at = sym (ap (reply_of w (items_of entries)) (item_
 pub no_reply : (w : Setting) (entries : List Entry) (n : ℕ) → numbered entries n ≡ None → None ≡ reply_of w (items_of entries) (numbered (items_of entries) n)
 no_reply w entries n at = sym (ap (reply_of w (items_of entries)) (item_numbered entries n None at))
 
--- a world begins with no request that was done
-pub told_again : (s : SystemWorld) (log : Log) (position earlier : ℕ) → reply_of (setting_of s) log (numbered log earlier) ≡ told_by (setting_of s) log position (Some (Repeated earlier))
-told_again s log position zero = refl
-told_again s log position (suc n) = sym (ap (λ b. cond b None (reply_of (setting_of s) log (numbered log (suc n)))) (above n))
+-- the reply to a request that was done before
+pub told_before : (s : SystemWorld) (log : Log) (position earlier : ℕ) → earlier ≡ 0 → reply_done (setting_of s).beginning.requests (request_of_item (numbered log position)) ≡ told_by (setting_of s) log position (Some (Repeated earlier))
+told_before s log position earlier is = ap (λ (n : ℕ). told_by (setting_of s) log position (Some (Repeated n))) (sym is)
+
+-- the request of the item at a position, by its entry
+pub request_there : (entries : List Entry) (n : ℕ) (e : ExecutedCall) → numbered entries n ≡ Some (CallEntry e) → request_of_item (numbered (items_of entries) n) ≡ e.call.request
+request_there entries n e at = ap request_of_item (item_numbered entries n (Some (CallEntry e)) at)
+
+pub no_request_there : (entries : List Entry) (n : ℕ) (p : StoredProcedure) → numbered entries n ≡ Some (AdditionEntry p) → request_of_item (numbered (items_of entries) n) ≡ None
+no_request_there entries n p at = ap request_of_item (item_numbered entries n (Some (AdditionEntry p)) at)
+
+pub no_request : (entries : List Entry) (n : ℕ) → numbered entries n ≡ None → request_of_item (numbered (items_of entries) n) ≡ None
+no_request entries n at = ap request_of_item (item_numbered entries n None at)
+
+-- an earlier call's reply, above 0
+pub told_again : (s : SystemWorld) (log : Log) (position earlier : ℕ) → (earlier ≡ 0 → ⊥) → reply_of (setting_of s) log (numbered log earlier) ≡ told_by (setting_of s) log position (Some (Repeated earlier))
+told_again s log position zero later = absurd (later refl)
+told_again s log position (suc n) later = sym (ap (λ b. cond b (reply_done (setting_of s).beginning.requests (request_of_item (numbered log position))) (reply_of (setting_of s) log (numbered log (suc n)))) (above n))
   where
     above : (n : ℕ) → nat_eq (suc n) 0 ≡ false
     above n = grind (arith, nat_tests)

@@ -4,8 +4,9 @@ ghost use Rattle.std.specs.Prelude.{◌≡◌, ◌≤◌, Some, IfOk, OnErr};
 ghost use Rattle.byte_output.specs.Pending.{output_of, Passes};
 ghost use Rattle.dsm_model.specs.declared.outcome.Outcome.{Outcome as ModelOutcome};
 ghost use Rattle.dsm_model.specs.World.{IsStep, Begin as BeginStep, Turn as TurnStep, numbered};
-ghost use Rattle.dsm_model.specs.Sound.{reply_of, told_by};
-ghost use Rattle.log_model.specs.Log.{Setting};
+ghost use Rattle.dsm_model.specs.Sound.{reply_of, request_of_item, told_by};
+ghost use Rattle.log_model.specs.declared.verdict.Verdict.TheVariants.{Repeated};
+ghost use Rattle.log_model.specs.Log.{Setting, reply_done};
 ghost use Rattle.dsm_world.specs.System.{setting_of, world_of, step_of};
 ghost use Rattle.report.specs.Answers.{answer_line};
 ghost use Rattle.script.specs.declared.statements.Action.TheVariants as action;
@@ -100,15 +101,43 @@ fn delivered_entry<A: Allocator + Copy>(world: &World<A>, outcome: Outcome) -> D
 }
 
 /// The reply that the caller of the call at a position is told, by the call's verdict. A call that commits has its own
-/// reply, and a repeated call has the earlier call's.
+/// reply, and a repeated call has that of its request: the earlier call's, or what was replied before the log.
 fn told_reply<A: Allocator + Copy>(world: &World<A>, position: u32, verdict: Verdict) -> Option<u64>
     ensures { result ≡ told_by (setting_of world.now) (world_of world.now).log position (Some verdict) }
 {
     match verdict {
         Verdict::Commit => reply_at(world, position),
-        Verdict::Repeated(earlier) => reply_at(world, earlier),
+        Verdict::Repeated(earlier) => repeated_reply(world, position, earlier),
         _ => None,
     }
+}
+
+/// The reply to the request of the call at a position, which was done at an earlier position, or before the log.
+fn repeated_reply<A: Allocator + Copy>(world: &World<A>, position: u32, earlier: u32) -> Option<u64>
+    ensures { result ≡ told_by (setting_of world.now) (world_of world.now).log position (Some (Repeated earlier)) }
+{
+    if earlier == 0 {
+        return reply_before(world, position);
+    }
+    reply_at(world, earlier)
+}
+
+/// The request of the call at a position.
+fn request_at<A: Allocator + Copy>(world: &World<A>, position: u32) -> Option<RequestId>
+    ensures { result ≡ request_of_item (numbered (world_of world.now).log position) }
+{
+    match world.entry(position) {
+        Some(Entry::Call(call)) => call.request,
+        _ => None,
+    }
+}
+
+/// What was replied before the log to the request of the call at a position.
+fn reply_before<A: Allocator + Copy>(world: &World<A>, position: u32) -> Option<u64>
+    ensures { result ≡ reply_done (setting_of world.now).beginning.requests
+        (request_of_item (numbered (world_of world.now).log position)) }
+{
+    world.reply_done(request_at(world, position))
 }
 
 /// The reply of the call at a position.

@@ -2,10 +2,6 @@
 #![tactic(auto)]
 
 #[cfg(test)]
-mod additions;
-#[cfg(test)]
-mod requests;
-#[cfg(test)]
 mod stories;
 #[cfg(test)]
 mod tests;

@@ -1,5 +1,9 @@
 //! Scripts, and what they print.
 
+pub(crate) mod additions;
+pub(crate) mod beginnings;
+pub(crate) mod requests;
+
 /// A script, what it prints, and the line that is said of a fault. A text may have several lines.
 #[derive(Clone, Copy)]
 pub(crate) struct Story {

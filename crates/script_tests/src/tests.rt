@@ -1,5 +1,6 @@
-use crate::additions::{ADDED, of_additions};
-use crate::requests::{SENT_TWICE, of_requests};
+use crate::stories::additions::{ADDED, of_additions};
+use crate::stories::beginnings::{FAULTS_AT_FIRST, of_beginnings};
+use crate::stories::requests::{SENT_TWICE, of_requests};
 use crate::stories::{
     ADD_ENTRY, INCREMENT, PROGRAM_LINES, STOPS, Story, TWO_INCREMENTS, all_stories,
 };
@@ -57,6 +58,7 @@ fn stories_print_what_they_should(rt: HostRuntime) {
         .iter()
         .chain(&of_additions())
         .chain(&of_requests())
+        .chain(&of_beginnings())
         .enumerate()
     {
         let told = tells(rt.alloc(), story.lines, story.prints, story.fault).expect(&rt, "memory");
@@ -72,10 +74,18 @@ fn a_line_has_a_program_or_its_fault(rt: HostRuntime) {
     }
 }
 
+#[test]
+fn rows_and_requests_at_first_have_their_faults(rt: HostRuntime) {
+    for (lines, fault) in &FAULTS_AT_FIRST {
+        let told = tells(rt.alloc(), lines, &[], fault).expect(&rt, "memory");
+        assert!(rt; told, "{fault}");
+    }
+}
+
 const ONE: &str = "proc one 9 0 b7000000010000009500000000000000";
 
 /// Lines, what they print, and the fault of the last.
-const FAULTS: [(&[&str], &[&str], &str); 29] = [
+const FAULTS: [(&[&str], &[&str], &str); 31] = [
     (&["window\t4"], &[], "line 1: L1"),
     (&["jump 1"], &[], "line 1: L2"),
     (&["window"], &[], "line 1: L3"),
@@ -121,6 +131,16 @@ const FAULTS: [(&[&str], &[&str], &str); 29] = [
     ),
     (
         &["window 4", "replicas 1", "log", ONE],
+        &["log 0"],
+        "line 4: L5",
+    ),
+    (
+        &["window 4", "replicas 1", "log", "row 1 5 0a"],
+        &["log 0"],
+        "line 4: L5",
+    ),
+    (
+        &["window 4", "replicas 1", "log", "request 7 1 10 1 -"],
         &["log 0"],
         "line 4: L5",
     ),

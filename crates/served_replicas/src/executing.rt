@@ -117,6 +117,7 @@ pub fn serve<J: LogSetting + Ledgers, A: Allocator + Copy, P: Allocator + Copy, 
     let executor = Executor {
         alloc: shared.alloc,
         log: &shared.log,
+        catalogue: &shared.catalogue,
         served: &served.served,
         gate: &shared.gate,
         waiter,

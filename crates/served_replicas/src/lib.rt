@@ -17,7 +17,6 @@ mod calls;
 mod delivering;
 mod executing;
 mod kind;
-mod node_catalogue;
 mod rebuild;
 mod reply;
 mod scan;

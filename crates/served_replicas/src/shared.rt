@@ -4,12 +4,11 @@ ghost use Rattle.std.specs.Prelude.{◌≡◌, ◌+◌, ◌≤◌, length, IfSom
 ghost use Rattle.served_replicas.specs.Replicas.{IsNoReplica};
 ghost use Rattle.catalogue.specs.Catalogue.{system_setting};
 
-use crate::node_catalogue::NodeCatalogue;
 use catalogue::Catalogue;
 use crossbeam_utils::CachePadded;
 use crossbeam_utils::sync::EventCount;
 use locked_replica::{LockedReplica, LogSetting, OrderedEntries};
-use node_calls::{Bells, Gate, ServedReplica};
+use node_calls::{Bells, Gate, NodeCatalogue, ServedReplica};
 use order_log::{Fact, OrderLog};
 use std::alloc::{AllocError, Allocator, Global};
 use std::marker::Model;

@@ -15,7 +15,8 @@ either false b e = inr e
 same : (m n : ℕ) → nat_eq m n ≡ true → m ≡ n
 same m n e = grind (arith, nat_tests)
 
-few_set : ((k : Key) → bit_of k < 1024) → (ks : List Key) (bit : ℕ) → list_any (λ k. nat_eq (bit_of k) bit) ks ≡ true → bit < 1024
+-- each bit that keys set is one of the signature's
+pub few_set : ((k : Key) → bit_of k < 1024) → (ks : List Key) (bit : ℕ) → list_any (λ k. nat_eq (bit_of k) bit) ks ≡ true → bit < 1024
 few_set few [] bit e = absurd cc
 few_set few (k ∷ ks) bit e = elim (either (nat_eq (bit_of k) bit) (list_any (λ q. nat_eq (bit_of q) bit) ks) e) [
   | inl here ↦ subst (λ (b : ℕ). b < 1024) (same (bit_of k) bit here) (few k)

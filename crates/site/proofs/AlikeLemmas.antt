@@ -6,7 +6,7 @@ use Rattle.std.proofs.lemmas.List.Sums.{fold-append}
 use Rattle.schema.specs.declared.look.Look.{Look}
 use Rattle.schema.specs.Rows.{Rows}
 use Rattle.log_model.specs.InstalledWrites.{map_after}
-use Rattle.log_model.specs.Log.{Beginning, Catalogue, Setting, Call, CertifiedItem, DoneRequest, verdict_after, done_at, first_position, conflicts, unless_repeated, unless_conflict}
+use Rattle.log_model.specs.Log.{Beginning, Setting, Call, CertifiedItem, DoneRequest, verdict_after, done_at, first_position, conflicts, unless_repeated, unless_conflict}
 use Rattle.log_model.specs.declared.verdict.Verdict.TheVariants.{Stale}
 use Rattle.certify.specs.Comparisons.{comparisons_after, comparisons_from}
 use Rattle.log_model.specs.Entries.{Entry, CallEntry, AdditionEntry, CertifiedEntries, none_certified, certified_entry, with_entry, certified_entries_of, installed_from}

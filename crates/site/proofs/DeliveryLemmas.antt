@@ -115,6 +115,7 @@ site_after s new entry v = record {
   replica = new;
   replies = s.replies ++ reply_of (entry_of entry) ∷ [];
   additions = additions_after s.additions (entry_of entry) v new.position;
+  lasts = s.lasts;
 }
 
 module _ {A : Type 0} (s : SiteReplica) (entries : List Entry) (e : Entry) (entry : LogEntry A) where

@@ -6,3 +6,4 @@ pub mod AlikeLemmas
 pub mod SinceLemmas
 pub mod DeliveryLemmas
 pub mod CallLemmas
+mod LastLemmas

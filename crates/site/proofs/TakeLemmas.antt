@@ -1,26 +1,33 @@
 -- What stands at the next position follows the entries for which a site stands.
-use Rattle.std.proofs.Common.{◌≡◌, ℕ, zero, suc, ◌+◌, ◌<◌, List, [], ◌∷◌, ◌++◌, length, All, Some, None, refl, sym, ap, subst, ◌∙◌, Option}
+use Rattle.std.proofs.Common.{◌≡◌, ℕ, ◌+◌, ◌<◌, List, [], ◌∷◌, ◌++◌, length, All, Some, None, refl, sym, ap, subst, ◌∙◌, Option, Bool, true, false, cond, not, ◌&&◌, nat_le}
 use Rattle.std.specs.FinMap.{empty, get-empty}
 use Rattle.std.specs.Prelude.{Result, Ok, Err, IfOk, OnOk}
 use Rattle.schema.specs.Schema.{Tables}
 use Rattle.schema.specs.Rows.{AreWrites, key_cmp}
 use Rattle.log_model.specs.declared.request.RequestId.{RequestId}
-use Rattle.log_model.specs.Log.{StoredProcedure, Call as OrderedCall, IsPlaced, verdict_of}
+use Rattle.log_model.specs.Log.{StoredProcedure, Call as OrderedCall, Log, IsPlaced, procedure_of, verdict_of}
 use Rattle.log_model.specs.Fit.{IsSafe, FitsLog}
 use Rattle.log_model.specs.Entries.{Entry, ExecutedCall, CallEntry, AdditionEntry, item_of, items_of, IsCarried}
 use Rattle.log_entry.specs.declared.entry.Entry.{Entry as LogEntry}
 use Rattle.log_entry.specs.declared.entry.Entry.TheVariants.{Call, Addition}
-use Rattle.log_entry.specs.Head.{head_of}
+use Rattle.log_model.specs.Name.{is_name}
+use Rattle.log_entry.specs.Head.{NamedProcedure, Head, CallHead, AdditionHead, head_of}
+use Rattle.program_checks.specs.ProgramCheck.{ProgramCheck, Passed, Failed}
+use Rattle.program_checks.specs.Check.{check_of}
+use Rattle.schema.specs.declared.limits.TheConstants.{MAX_ARGUMENTS}
 use Rattle.log_entry.specs.Kind.{entry_of}
 use Rattle.site_model.specs.declared.cause.NothingCause.{NothingCause}
-use Rattle.site_model.specs.Standing.{SiteSetting, Standing, StandsAs, IsDecided, IsNothing, standing}
+use Rattle.site_model.specs.declared.cause.NothingCause.TheVariants as cause
+use Rattle.site_model.specs.Standing.{SiteSetting, Standing, StandsAs, IsDecided, IsNothing, executed, is_decided, is_true, takes_arguments, checked_standing, standing_of_head, standing}
 use Rattle.site_model.specs.declared.outcome.EntryOutcome.{EntryOutcome}
 use Rattle.site_model.specs.declared.outcome.EntryOutcome.TheVariants as outcome
-use Rattle.site_model.specs.Order.{committed_outcome, next_entry, entry_standing, outcome_behind, outcome_by, outcome_of, Order, order_entries, replies_to, reply_at, reply_to, request_in, with_bytes}
+use Rattle.site_model.specs.Order.{committed_outcome, next_entry, entry_standing, outcome_behind, outcome_by, outcome_of, Order, order_entries, replies_to, reply_to, request_in, with_bytes}
 use Rattle.site.specs.Replica.{SiteReplica, StandsForLog, StandsForOrder, setting_of}
 use Rattle.site.specs.declared.standing.Standing.TheVariants as Code
 use Rattle.site.specs.Standing.{CanBeTaken, IsStanding}
-use Rattle.site.specs.Taking.{AreAlike, Follows}
+use Rattle.site.specs.Taking.{AreAlike, Follows, request_carried}
+use Rattle.site_model.specs.Order.{next_outcome}
+use Rattle.site_model.specs.Sessions.{LastRequests, done_by, lasts_after, next_done, with_done_if}
 use Rattle.site.proofs.SiteLemmas.{log_long}
 
 -- what the law of orders says
@@ -102,26 +109,64 @@ stands_nothing A (IsNothing c) cause is = ap IsNothing is
 stands_nothing A (IsDecided call) cause is = absurd is
 stands_nothing A (StandsAs e) cause is = absurd is
 
--- a site's order begins with no request that was done
-pub same_replies : (s : SiteReplica) (entries : List Entry) (request : Option RequestId) → reply_at entries ≡ reply_to (setting_of s).setting entries request
-same_replies s entries request = λ i position. at position i
-  where
-    at : (position : ℕ) → reply_at entries position ≡ reply_to (setting_of s).setting entries request position
-    at zero = refl
-    at (suc before) = refl
+-- ---- the request of what stands there is that of the bytes
 
-outcome_at : (r : SiteReplica) (entries : List Entry) (bytes : List ℕ) (st : Standing) → standing (setting_of r) (items_of entries) bytes ≡ st
-    → outcome_behind (setting_of r) entries bytes ≡ outcome_of (reply_at (with_bytes (setting_of r) entries bytes)) st (verdict_of (setting_of r).setting (items_of (with_bytes (setting_of r) entries bytes)) (length entries + 1))
-outcome_at r entries bytes st is =
+abbrev HasRequest : Option RequestId → Standing → Type 0
+HasRequest request (StandsAs e) = request_carried e ≡ request
+HasRequest request (IsDecided call) = call.request ≡ request
+HasRequest request (IsNothing cause) = Unit {0}
+
+either : (request : Option RequestId) (b : Bool) (x y : Standing) → HasRequest request x → HasRequest request y → HasRequest request (cond b x y)
+either request true x y h k = h
+either request false x y h k = k
+
+checked_has : (p : NamedProcedure) (check : ProgramCheck) → HasRequest None (checked_standing p check)
+checked_has p (Passed program) = refl
+checked_has p (Failed fault) = tt
+
+has_request : (s : SiteSetting) (log : Log) (bytes : List ℕ) (head : Option Head) → HasRequest (request_in head) (standing_of_head s log bytes head)
+has_request s log bytes None = tt
+has_request s log bytes (Some (CallHead call reply)) =
+    either call.request (not (nat_le call.snapshot (length log))) (IsNothing cause.Snapshot) _ tt
+    (either call.request (is_decided s.setting log call) (IsDecided call) _ refl
+    (either call.request (not (takes_arguments (procedure_of s.setting log call) call.args)) (IsNothing cause.Procedure) _ tt
+    (either call.request (is_true s.setting log call bytes) (StandsAs (CallEntry (executed s.setting log call))) (IsNothing cause.Untrue) refl tt)))
+has_request s log bytes (Some (AdditionHead p)) =
+    either None (s.takes_additions && (is_name p.name && nat_le p.args_len MAX_ARGUMENTS)) _ (IsNothing cause.Addition)
+    (checked_has p (check_of s.setting.tables p.args_len p.bytes)) tt
+
+standing_has : (s : SiteSetting) (log : Log) (bytes : List ℕ) → HasRequest (request_in (head_of bytes)) (standing s log bytes)
+unfolding standing
+standing_has s log bytes = has_request s log bytes (head_of bytes)
+
+-- so the next entry carries it, unless it is nothing
+next_request : (s : SiteSetting) (entries : List Entry) (bytes : List ℕ) (st : Standing) → standing s (items_of entries) bytes ≡ st → ((cause : NothingCause) → st ≡ IsNothing cause → ⊥)
+    → request_carried (next_entry s entries bytes) ≡ request_in (head_of bytes)
+next_request s entries bytes st is something =
+    ap (λ (x : Standing). request_carried (entry_standing s.setting (items_of entries) x)) is
+    ∙ by st something (subst (HasRequest (request_in (head_of bytes))) is (standing_has s (items_of entries) bytes))
+  where
+    by : (x : Standing) → ((cause : NothingCause) → x ≡ IsNothing cause → ⊥) → HasRequest (request_in (head_of bytes)) x → request_carried (entry_standing s.setting (items_of entries) x) ≡ request_in (head_of bytes)
+    by (StandsAs e) something has = has
+    by (IsDecided call) something has = has
+    by (IsNothing cause) something has = absurd (something cause refl)
+
+-- the replies to the request of the next entry
+abbrev replies_of_next : SiteReplica → List Entry → List ℕ → ℕ → ℕ
+replies_of_next r entries bytes = reply_to (setting_of r).setting (with_bytes (setting_of r) entries bytes) (request_carried (next_entry (setting_of r) entries bytes))
+
+outcome_at : (r : SiteReplica) (entries : List Entry) (bytes : List ℕ) (st : Standing) → standing (setting_of r) (items_of entries) bytes ≡ st → ((cause : NothingCause) → st ≡ IsNothing cause → ⊥)
+    → outcome_behind (setting_of r) entries bytes ≡ outcome_of (replies_of_next r entries bytes) st (verdict_of (setting_of r).setting (items_of (with_bytes (setting_of r) entries bytes)) (length entries + 1))
+outcome_at r entries bytes st is something =
     let all = with_bytes (setting_of r) entries bytes in
     let verdict = verdict_of (setting_of r).setting (items_of all) (length entries + 1) in
     ap (λ (x : Standing). outcome_of (replies_to (setting_of r) all bytes) x verdict) is
-    ∙ ap (λ replies. outcome_of replies st verdict) (sym (same_replies r all (request_in (head_of bytes))))
+    ∙ ap (λ (request : Option RequestId). outcome_of (reply_to (setting_of r).setting all request) st verdict) (sym (next_request (setting_of r) entries bytes st is something))
 
 -- what taking an entry in says of its outcome
 abbrev pub TakesFor : {A : Type 0} → SiteReplica → LogEntry A → EntryOutcome → EntryOutcome → Type 0
 TakesFor r entry committed o = (entries : List Entry) (e : Entry) → Follows r entries e entry
-    → o ≡ outcome_by (reply_at (entries ++ e ∷ [])) committed (verdict_of (setting_of r).setting (items_of (entries ++ e ∷ [])) (length entries + 1))
+    → o ≡ outcome_by (reply_to (setting_of r).setting (entries ++ e ∷ []) (request_carried e)) committed (verdict_of (setting_of r).setting (items_of (entries ++ e ∷ [])) (length entries + 1))
 
 module _ {A : Type 0} (placed : ArePlaced) (carried : AreCarried) (fit : FitLogs) (r : SiteReplica) (entries : List Entry) (bytes : List ℕ) (are : All (λ b. b < 256) bytes) (stands : StandsForLog r entries) (entry : LogEntry A) where
   pub true_follows : IsStanding (standing (setting_of r) (items_of entries) bytes) (Code.StandsAs entry) → CanBeTaken r.catalogue.tables entry → Follows r entries (next_entry (setting_of r) entries bytes) entry
@@ -133,8 +178,8 @@ module _ {A : Type 0} (placed : ArePlaced) (carried : AreCarried) (fit : FitLogs
   true_outcome committed o is taken by_entry takes =
       let (e, at, same) = stands_true (standing (setting_of r) (items_of entries) bytes) entry is in
       takes entries (next_entry (setting_of r) entries bytes) (true_follows is taken)
-      ∙ ap (λ (x : EntryOutcome). outcome_by (reply_at (with_bytes (setting_of r) entries bytes)) x (verdict_of (setting_of r).setting (items_of (with_bytes (setting_of r) entries bytes)) (length entries + 1))) (by_entry ∙ ap committed_outcome (sym same))
-      ∙ sym (outcome_at r entries bytes (StandsAs e) at)
+      ∙ ap (λ (x : EntryOutcome). outcome_by (replies_of_next r entries bytes) x (verdict_of (setting_of r).setting (items_of (with_bytes (setting_of r) entries bytes)) (length entries + 1))) (by_entry ∙ ap committed_outcome (sym same))
+      ∙ sym (outcome_at r entries bytes (StandsAs e) at (λ cause bad. absurd cc))
 
   pub decided_follows : (snapshot : ℕ) (request : Option RequestId) → IsStanding {A = A} (standing (setting_of r) (items_of entries) bytes) (Code.Decided snapshot request) → entry_of entry ≡ CallEntry (none_executed snapshot request) → Follows r entries (next_entry (setting_of r) entries bytes) entry
   decided_follows snapshot request is entry_is =
@@ -144,7 +189,7 @@ module _ {A : Type 0} (placed : ArePlaced) (carried : AreCarried) (fit : FitLogs
   pub decided_outcome : (snapshot : ℕ) (request : Option RequestId) (o : EntryOutcome) → IsStanding {A = A} (standing (setting_of r) (items_of entries) bytes) (Code.Decided snapshot request) → entry_of entry ≡ CallEntry (none_executed snapshot request) → TakesFor r entry outcome.Stale o → o ≡ outcome_behind (setting_of r) entries bytes
   decided_outcome snapshot request o is entry_is takes =
       let (call, at, same, carries) = stands_decided A (standing (setting_of r) (items_of entries) bytes) snapshot request is in
-      takes entries (next_entry (setting_of r) entries bytes) (decided_follows snapshot request is entry_is) ∙ sym (outcome_at r entries bytes (IsDecided call) at)
+      takes entries (next_entry (setting_of r) entries bytes) (decided_follows snapshot request is entry_is) ∙ sym (outcome_at r entries bytes (IsDecided call) at (λ cause bad. absurd cc))
 
   pub nothing_follows : (cause : NothingCause) (position : ℕ) → IsStanding {A = A} (standing (setting_of r) (items_of entries) bytes) (Code.Nothing cause) → position ≡ r.replica.position → entry_of entry ≡ CallEntry (none_executed position None) → Follows r entries (next_entry (setting_of r) entries bytes) entry
   nothing_follows cause position is here entry_is =
@@ -164,6 +209,29 @@ on_ok P Q (Err e) p f = tt
 abbrev pub OrdersNext : Type 0
 OrdersNext = (s : SiteSetting) (order : Order) (bytes : List ℕ) → order_entries s (order ++ bytes ∷ []) ≡ with_bytes s (order_entries s order) bytes
 
-pub order_taken : (old new : SiteReplica) (order : Order) (bytes : List ℕ) → OrdersNext → setting_of new ≡ setting_of old → StandsForLog new (with_bytes (setting_of old) (order_entries (setting_of old) order) bytes) → StandsForOrder new (order ++ bytes ∷ [])
-order_taken old new order bytes next setting stands =
-    subst (λ (s : SiteSetting). StandsForLog new (order_entries s (order ++ bytes ∷ []))) (sym setting) (subst (StandsForLog new) (sym (next (setting_of old) order bytes)) stands)
+abbrev pub LastsNext : Type 0
+LastsNext = (s : SiteSetting) (order : Order) (bytes : List ℕ) → lasts_after s (order ++ bytes ∷ []) ≡ with_done_if (lasts_after s order) (next_done s order bytes)
+
+-- the site behind one more byte string, which knows what that has done
+pub order_taken : (old taken new : SiteReplica) (order : Order) (bytes : List ℕ) (o : EntryOutcome) → OrdersNext → LastsNext → setting_of taken ≡ setting_of old
+    → StandsForLog taken (with_bytes (setting_of old) (order_entries (setting_of old) order) bytes) → taken.lasts ≡ old.lasts → o ≡ next_outcome (setting_of old) order bytes
+    → new ≡ record taken { lasts = with_done_if taken.lasts (done_by (head_of bytes) o) } → StandsForOrder old order → StandsForOrder new (order ++ bytes ∷ [])
+order_taken old taken new order bytes o next lasts_next setting stands kept outcome is before =
+    subst (λ (x : SiteReplica). StandsForOrder x (order ++ bytes ∷ [])) (sym is)
+    (record {
+      log = noted (subst (λ (s : SiteSetting). StandsForLog taken (order_entries s (order ++ bytes ∷ []))) (sym setting) (subst (StandsForLog taken) (sym (next (setting_of old) order bytes)) stands));
+      lasts =
+          ap (λ (l : LastRequests). with_done_if l (done_by (head_of bytes) o)) (kept ∙ before.lasts)
+          ∙ ap (λ (x : EntryOutcome). with_done_if (lasts_after (setting_of old) order) (done_by (head_of bytes) x)) outcome
+          ∙ sym (lasts_next (setting_of old) order bytes)
+          ∙ ap (λ (s : SiteSetting). lasts_after s (order ++ bytes ∷ [])) (sym setting);
+    })
+  where
+    noted : {entries : List Entry} {lasts : LastRequests} → StandsForLog taken entries → StandsForLog (record taken { lasts = lasts }) entries
+    noted stands = record {
+      running = stands.running;
+      stands = stands.stands;
+      of_log = stands.of_log;
+      replies = stands.replies;
+      since = stands.since;
+    }

@@ -1,24 +1,28 @@
 -- A site, and the order for which it stands.
 use Rattle.std.specs.Prelude.{◌≡◌, ℕ, ◌<◌, ◌≤◌, ◌==◌, find, Bool, false, List, map, length, reverse, Option, Some, None, refl}
 use Rattle.std.specs.Coded.{Coded, code_by, coded×, coded_ℕ, coded_bool, coded_list}
+use Rattle.std.specs.FinMap as finite
 use Rattle.catalogue.specs.Catalogue.{SystemCatalogue, system_setting}
 use Rattle.catalogue.specs.Held.{catalogue_code}
 use Rattle.log_model.specs.Log.{Setting, Log, by_number, procedures_after}
+use Rattle.log_model.specs.Codes.{done_code}
 use Rattle.log_model.specs.Entries.{Entry, items_of}
 use Rattle.replica.specs.Replica.{Replica, StandsIn}
 use Rattle.replica.specs.Codes.{replica_code}
 use Rattle.site_model.specs.Fit.{AreFitEntries}
 use Rattle.site_model.specs.Standing.{SiteSetting}
 use Rattle.site_model.specs.Order.{Order, order_entries, reply_in}
+use Rattle.site_model.specs.Sessions.{LastRequests, lasts_after}
 
--- the tables and the first procedures, whether procedures may be added, what its replica keeps, the reply at each
--- position, and the positions of the procedures that were added, by number
+-- the tables and what the database begins with, whether procedures may be added, what its replica keeps, the reply at
+-- each position, the positions of the procedures that were added, by number, and what each session has done last
 pub record SiteReplica : Type 0 where
   pub catalogue : SystemCatalogue
   pub takes_additions : Bool
   pub replica : Replica
   pub replies : List ℕ
   pub additions : List (ℕ × ℕ)
+  pub lasts : LastRequests
 
 abbrev pub setting_of : SiteReplica → SiteSetting
 setting_of s = record {
@@ -57,21 +61,24 @@ pub record StandsForLog (s : SiteReplica) (entries : List Entry) : Type 0 where
   pub replies : s.replies ≡ map reply_of entries
   pub since : KnowsSince (setting_of s).setting (items_of entries) s.additions
 
-abbrev pub StandsForOrder : SiteReplica → Order → Type 0
-StandsForOrder s order = StandsForLog s (order_entries (setting_of s) order)
+-- and what it knows of sessions is what the order did
+pub record StandsForOrder (s : SiteReplica) (order : Order) : Type 0 where
+  pub log : StandsForLog s (order_entries (setting_of s) order)
+  pub lasts : s.lasts ≡ lasts_after (setting_of s) order
 
 -- ---- how sites are told from others, as the checker needs it
 
 abbrev pub site_code : Coded SiteReplica
-site_code = code_by (SystemCatalogue × (Bool × (Replica × (List ℕ × List (ℕ × ℕ)))))
+site_code = code_by (SystemCatalogue × (Bool × (Replica × (List ℕ × (List (ℕ × ℕ) × LastRequests)))))
     (coded× catalogue_code (coded× coded_bool (coded× replica_code
-    (coded× (coded_list coded_ℕ) (coded_list (coded× coded_ℕ coded_ℕ))))))
-    (λ s. (s.catalogue, (s.takes_additions, (s.replica, (s.replies, s.additions)))))
+    (coded× (coded_list coded_ℕ) (coded× (coded_list (coded× coded_ℕ coded_ℕ)) (finite.code coded_ℕ done_code))))))
+    (λ s. (s.catalogue, (s.takes_additions, (s.replica, (s.replies, (s.additions, s.lasts))))))
     (λ c. record {
       catalogue = c.0;
       takes_additions = c.1.0;
       replica = c.1.1.0;
       replies = c.1.1.1.0;
-      additions = c.1.1.1.1;
+      additions = c.1.1.1.1.0;
+      lasts = c.1.1.1.1.1;
     })
     (λ _. refl)

@@ -1,5 +1,6 @@
 -- What a site takes in behind the entries for which it stands.
-use Rattle.std.specs.Prelude.{◌≡◌, ℕ, List, [], ◌∷◌, ◌++◌, length}
+use Rattle.std.specs.Prelude.{◌≡◌, ℕ, List, [], ◌∷◌, ◌++◌, length, Option, None}
+use Rattle.log_model.specs.declared.request.RequestId.{RequestId}
 use Rattle.log_model.specs.declared.verdict.Verdict.{Verdict}
 use Rattle.log_model.specs.declared.verdict.Verdict.TheVariants.{Commit}
 use Rattle.log_model.specs.Log.{IsPlaced}
@@ -18,6 +19,11 @@ AreAlike (CallEntry e) (CallEntry d) =
     × (e.looks ≡ d.looks) × (e.writes ≡ d.writes) × (e.reply ≡ d.reply)
 AreAlike (AdditionEntry p) (AdditionEntry q) = p ≡ q
 AreAlike _ _ = ⊥
+
+-- the request that it carries, where it is a call that has one
+abbrev pub request_carried : Entry → Option RequestId
+request_carried (CallEntry e) = e.call.request
+request_carried (AdditionEntry p) = None
 
 -- the positions of additions behind an entry at this position, by the verdict on it
 abbrev pub additions_after : List (ℕ × ℕ) → Entry → Verdict → ℕ → List (ℕ × ℕ)

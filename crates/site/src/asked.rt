@@ -11,7 +11,6 @@ ghost use Rattle.site_model.specs.Own.{IsAskedBehind};
 ghost use Rattle.site.specs.Replica.{StandsForLog, setting_of};
 ghost use Rattle.site.specs.Answered.{HasShortReply, answered, asked_of};
 
-use crate::replies::reply_at;
 use crate::run::{NamedCall, complete};
 use crate::state::SiteReplica;
 use catalogue::{found_by_name_is_found_by_number, stored_procedures_are_consistent};
@@ -96,7 +95,7 @@ pub fn call<A: Allocator + Copy>(
         Err(refusal) => return Ok(CallAnswer::Refused(refusal)),
     };
     if let Some(position) = site.repeated(asked.request) {
-        let reply = reply_at(site.replies(), position);
+        let reply = site.reply_to(asked.request, position);
         return Ok(CallAnswer::Repeated { position, reply });
     }
     let snapshot = site.position();

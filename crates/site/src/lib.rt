@@ -3,10 +3,12 @@
 
 pub use crate::site::Site;
 pub use asked::Asked;
+pub use lasts::LastRequests;
 
 mod addition;
 mod additions;
 mod asked;
+mod lasts;
 mod outcome;
 mod replies;
 mod run;

@@ -4,6 +4,7 @@ ghost use Rattle.std.specs.Prelude.{◌≡◌, ◌+◌, ◌<◌, ◌≤◌, ◌^
 ghost use Rattle.std.specs.FinMap as map;
 ghost use Rattle.log_model.specs.Log.{rows_after};
 ghost use Rattle.site_model.specs.Order.{Order, next_outcome, order_log};
+ghost use Rattle.site_model.specs.Sessions.{lasts_after};
 ghost use Rattle.schema.specs.declared.limits.TheConstants.{MAX_ARGUMENTS};
 ghost use Rattle.site_model.specs.Answer.{addition_answer, call_answer, takes_memory};
 ghost use Rattle.site_model.specs.declared.answer.CallAnswer.TheVariants.{Submitted};
@@ -15,13 +16,16 @@ ghost use Rattle.catalogue.specs.Catalogue.{system_setting};
 
 use crate::addition::add;
 use crate::asked::{Asked, call};
+use crate::lasts::LastRequests;
 use crate::state::SiteReplica;
 use crate::take::take;
 use catalogue::Catalogue;
 use log_entry::{Entry, NamedProgram};
 use replica::At;
 use row_sets::Row;
-use site_model::{AdditionAnswer, CallAnswer, EntryOutcome, fit_entries_go_on, orders_grow};
+use site_model::{
+    AdditionAnswer, CallAnswer, EntryOutcome, fit_entries_go_on, last_requests_go_on, orders_grow,
+};
 use std::alloc::{AllocError, Allocator, Global};
 use std::marker::Model;
 use txn_view::Store;
@@ -46,8 +50,8 @@ impl<A: Allocator + Copy> Model for Site<A> {
 }
 
 impl<A: Allocator + Copy> Site<A> {
-    /// Makes a site that was given nothing, with the tables and the first procedures of a catalogue. A call is stale
-    /// where more byte strings than the window came since its snapshot.
+    /// Makes a site that was given nothing, with the tables, rows, requests and procedures of a catalogue. A call is
+    /// stale where more byte strings than the window came since its snapshot.
     pub fn new(
         alloc: A,
         window: u32,
@@ -62,6 +66,7 @@ impl<A: Allocator + Copy> Site<A> {
     {
         // Laws:
         orders_grow();
+        last_requests_go_on();
         let replica = SiteReplica::new(alloc, window, catalogue, takes_additions)?;
         Ok(Site { replica })
     }
@@ -89,9 +94,19 @@ impl<A: Allocator + Copy> Site<A> {
     {
         // Laws:
         orders_grow();
+        last_requests_go_on();
         let Site { mut replica } = self;
         let outcome = take(&mut replica, bytes)?;
+        replica.note_done(bytes, outcome)?;
         Ok((Site { replica }, outcome))
+    }
+
+    /// The request of the greatest number that each session has done, in the order or before.
+    pub fn last_requests(&self) -> &LastRequests<A>
+        ensures { (order : Order) → StandsForOrder self.now order
+            → result.now ≡ lasts_after (setting_of self.now) order }
+    {
+        self.replica.last_requests()
     }
 
     /// The rows at the last position, in the order of tables and keys.

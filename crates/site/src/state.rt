@@ -1,12 +1,16 @@
 //! The replica of a site.
 
-ghost use Rattle.std.specs.Prelude.{◌≡◌, List, [], length, IfOk};
-ghost use Rattle.std.specs.FinMap as map;
+ghost use Rattle.std.specs.Prelude.{◌≡◌, List, [], length, map, IfOk};
+ghost use Rattle.std.specs.FinMap as finite;
 ghost use Rattle.log_model.specs.Log.{done_at, history, rows_after};
 ghost use Rattle.log_model.specs.Entries.{Entry as ModelEntry, items_of};
-ghost use Rattle.site.specs.Replica.{StandsForLog, setting_of};
+ghost use Rattle.site_model.specs.Order.{reply_to};
+ghost use Rattle.site_model.specs.Sessions.{lasts_of};
+ghost use Rattle.site.specs.Replica.{StandsForLog, reply_of, setting_of};
 ghost use Rattle.catalogue.specs.Catalogue.{system_setting};
 
+use crate::lasts::{LastRequests, lasts_of};
+use crate::replies::reply_to;
 use catalogue::{Catalogue, catalogues_are_safe};
 use log_model::{RequestId, entries_suffice};
 use replica::Replica;
@@ -26,6 +30,7 @@ pub struct SiteReplica<A: Allocator + Copy = Global> {
     pub(crate) replies: Vec<u64, A>,
     /// The number of each procedure that was added, and its position.
     pub(crate) additions: Vec<(u16, u32), A>,
+    pub(crate) lasts: LastRequests<A>,
 }
 
 impl<A: Allocator + Copy> Model for SiteReplica<A> {
@@ -41,12 +46,13 @@ impl<A: Allocator + Copy> Model for SiteReplica<A> {
       replica = s.replica;
       replies = s.replies.items;
       additions = s.additions.items;
+      lasts = s.lasts;
     } };
 }
 
 impl<A: Allocator + Copy> SiteReplica<A> {
-    /// Makes a replica that was given nothing, with the tables and the first procedures of a catalogue. A call is stale
-    /// where more byte strings than the window came since its snapshot.
+    /// Makes a replica that was given nothing, with the tables, rows, requests and procedures of a catalogue. A call is
+    /// stale where more byte strings than the window came since its snapshot.
     pub fn new(
         alloc: A,
         window: u32,
@@ -54,6 +60,7 @@ impl<A: Allocator + Copy> SiteReplica<A> {
         takes_additions: bool,
     ) -> Result<SiteReplica<A>, AllocError>
         ensures stands { IfOk result (λ s. StandsForLog s []) }
+        ensures lasts { IfOk result (λ s. s.lasts ≡ lasts_of catalogue.requests) }
         ensures setting { IfOk result (λ s. setting_of s ≡ record {
           setting = system_setting catalogue window;
           takes_additions = takes_additions;
@@ -61,6 +68,7 @@ impl<A: Allocator + Copy> SiteReplica<A> {
     {
         catalogues_are_safe(&catalogue);
         let replica = Replica::new(alloc, window, &catalogue)?;
+        let lasts = lasts_of(alloc, catalogue.requests().requests())?;
         Ok(SiteReplica {
             alloc,
             catalogue,
@@ -68,6 +76,7 @@ impl<A: Allocator + Copy> SiteReplica<A> {
             replica,
             replies: Vec::new(alloc),
             additions: Vec::new(alloc),
+            lasts,
         })
     }
 
@@ -79,11 +88,12 @@ impl<A: Allocator + Copy> SiteReplica<A> {
         self.replica.position()
     }
 
-    /// The reply at each position, from 1 on.
-    pub fn replies(&self) -> &[u64]
-        ensures { result.now ≡ self.now.replies }
+    /// The reply to a request that was done at a position: before the order, which is 0, or by the call there.
+    pub(crate) fn reply_to(&self, request: Option<RequestId>, position: u32) -> u64
+        ensures { (entries : List ModelEntry) → self.now.replies ≡ map reply_of entries
+            → result ≡ reply_to (setting_of self.now).setting entries request position }
     {
-        &self.replies
+        reply_to(self.catalogue.requests(), &self.replies, request, position)
     }
 
     /// The replica of the order's log.
@@ -93,11 +103,18 @@ impl<A: Allocator + Copy> SiteReplica<A> {
         &self.replica
     }
 
-    /// The site's tables, and the procedures at first.
+    /// The site's tables, and what its database begins with.
     pub fn catalogue(&self) -> &Catalogue<A>
         ensures { result.now ≡ self.now.catalogue }
     {
         &self.catalogue
+    }
+
+    /// The last request of each session.
+    pub fn last_requests(&self) -> &LastRequests<A>
+        ensures { result.now ≡ self.now.lasts }
+    {
+        &self.lasts
     }
 
     /// Tells whether procedures may be added.
@@ -126,7 +143,7 @@ impl<A: Allocator + Copy> SiteReplica<A> {
     /// The rows at the last position, in the order of tables and keys.
     pub fn rows<B: Allocator + Copy>(&self, alloc: B) -> Result<Vec<Row<B>, B>, AllocError>
         ensures { IfOk result (λ list. (entries : List ModelEntry) → StandsForLog self.now entries → list.items
-            ≡ map.entries (rows_after (setting_of self.now).setting (items_of entries) (length entries))) }
+            ≡ finite.entries (rows_after (setting_of self.now).setting (items_of entries) (length entries))) }
     {
         // Laws:
         fit_entries_go_on();

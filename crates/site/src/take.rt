@@ -5,11 +5,11 @@ ghost use Rattle.std.specs.FinMap.{empty};
 ghost use Rattle.log_model.specs.Log.{verdict_of};
 ghost use Rattle.log_model.specs.Entries.{CallEntry, Entry as ModelEntry, items_of};
 ghost use Rattle.log_entry.specs.Kind.{entry_of};
-ghost use Rattle.site_model.specs.Order.{outcome_behind, outcome_by, with_bytes, reply_at};
+ghost use Rattle.site_model.specs.Order.{outcome_behind, outcome_by, with_bytes, reply_to};
 ghost use Rattle.site.specs.Replica.{StandsForLog, setting_of};
-ghost use Rattle.site.specs.Taking.{Follows};
+ghost use Rattle.site.specs.Taking.{Follows, request_carried};
 
-use crate::outcome::{committed_outcome, outcome_by};
+use crate::outcome::{committed_outcome, outcome_by, request_of};
 use crate::standing::Standing;
 use crate::state::SiteReplica;
 use log_entry::{Entry, ExecutedCall};
@@ -57,14 +57,16 @@ fn take_entry<A: Allocator + Copy>(
     requires room { replica.old.replica.position + 1 < 2 ^ 32 }
     requires follows { (entries : List ModelEntry) × (e : ModelEntry) × Follows replica.old entries e entry.now }
     ensures outcome { IfOk result (λ outcome. (entries : List ModelEntry) (e : ModelEntry)
-        → Follows replica.old entries e entry.now → outcome ≡ outcome_by (reply_at (entries ++ e ∷ [])) committed
+        → Follows replica.old entries e entry.now → outcome ≡ outcome_by
+        (reply_to (setting_of replica.old).setting (entries ++ e ∷ []) (request_carried e)) committed
         (verdict_of (setting_of replica.old).setting (items_of (entries ++ e ∷ [])) (length entries + 1))) }
     ensures stands { OnOk result ((entries : List ModelEntry) (e : ModelEntry)
         → Follows replica.old entries e entry.now → StandsForLog replica.new (entries ++ e ∷ [])) }
     ensures setting { OnOk result (setting_of replica.new ≡ setting_of replica.old) }
+    ensures lasts { OnOk result (replica.new.lasts ≡ replica.old.lasts) }
 {
     let verdict = replica.deliver(entry)?;
-    Ok(outcome_by(replica.replies(), committed, verdict))
+    Ok(outcome_by(replica, request_of(entry), committed, verdict))
 }
 
 /// Takes in the byte string at the next position, and returns its outcome.
@@ -79,6 +81,7 @@ pub(crate) fn take<A: Allocator + Copy>(
     ensures stands { OnOk result ((entries : List ModelEntry) → StandsForLog replica.old entries
         → StandsForLog replica.new (with_bytes (setting_of replica.old) entries bytes.now)) }
     ensures setting { OnOk result (setting_of replica.new ≡ setting_of replica.old) }
+    ensures lasts { OnOk result (replica.new.lasts ≡ replica.old.lasts) }
 {
     // Laws:
     what_stands_is_of_the_log();

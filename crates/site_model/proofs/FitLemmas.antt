@@ -3,7 +3,7 @@ use Rattle.std.proofs.Common.{◌≡◌, ℕ, suc, ◌+◌, ◌≤◌, List, [],
 use Rattle.std.proofs.lemmas.List.{length-map, map-append}
 use Rattle.std.proofs.lemmas.List.Sums.{fold-append}
 use Rattle.log_model.specs.InstalledWrites.{map_after}
-use Rattle.log_model.specs.Log.{Beginning, Catalogue, CertifiedItem, Setting, Item, Log, IsLog, IsPlaced, history, rows_after, verdict_of}
+use Rattle.log_model.specs.Log.{Beginning, CertifiedItem, Setting, Item, Log, IsLog, IsPlaced, history, rows_after, verdict_of}
 use Rattle.log_model.specs.Fit.{AllFitLog, FitsLog, BeginsSafely}
 use Rattle.log_model.specs.Entries.{Entry, item_of, items_of, CarryRuns, CertifiedEntries, none_certified, IsCarried, certified_entry, certified_entries_of, installed_from, with_entry}
 use Rattle.log_model.proofs.CallLemmas.{count_history}

@@ -1,3 +1,4 @@
 pub mod StandingLemmas
 pub mod OrderLemmas
+mod SessionLemmas
 pub mod FitLemmas

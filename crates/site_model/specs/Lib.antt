@@ -3,3 +3,4 @@ pub mod Order
 pub mod Answer
 pub mod Fit
 pub mod Own
+pub mod Sessions

@@ -9,6 +9,7 @@ ghost use Rattle.log_model.specs.Entries.{certified_entry, certified_entries_of,
 ghost use Rattle.site_model.specs.Fit.{AreFitEntries};
 ghost use Rattle.site_model.specs.Standing.{SiteSetting, StandsAs, standing};
 ghost use Rattle.site_model.specs.Order.{Order, order_entries, next_entry, with_bytes};
+ghost use Rattle.site_model.specs.Sessions.{lasts_after, lasts_of, next_done, with_done_if};
 
 use log_model::{entries_suffice, logs_whose_calls_fit, one_more_entry_carries_its_run};
 
@@ -18,6 +19,14 @@ pub fn orders_grow()
     ensures next { (s : SiteSetting) (order : Order) (bytes : List ℕ)
         → order_entries s (order ++ bytes ∷ []) ≡ with_bytes s (order_entries s order) bytes }
     ensures count { (s : SiteSetting) (order : Order) → length (order_entries s order) ≡ length order }
+{}
+
+/// The last requests of sessions are those that were done before an order, and change by what each byte string of the
+/// order did.
+pub fn last_requests_go_on()
+    ensures first { (s : SiteSetting) → lasts_after s [] ≡ lasts_of s.setting.beginning.requests }
+    ensures next { (s : SiteSetting) (order : Order) (bytes : List ℕ) → lasts_after s (order ++ bytes ∷ [])
+        ≡ with_done_if (lasts_after s order) (next_done s order bytes) }
 {}
 
 /// The entry at the next position has a snapshot before it, carries its run, and fits the log. A procedure that the

@@ -30,6 +30,28 @@ fn site_of<A: Allocator + Copy>(alloc: A) -> Option<Site<A>> {
     Site::new(alloc, 4, catalogue_of(alloc, &TABLES, &PROCEDURES)?, true).ok()
 }
 
+/// The same with a row and a request that was done before.
+fn site_behind<A: Allocator + Copy>(alloc: A) -> Option<Site<A>> {
+    let mut catalogue = catalogue_of(alloc, &TABLES, &PROCEDURES)?;
+    catalogue.put_row(1, 5, &[0; 8]).ok()?;
+    let request = ASKED.request?;
+    catalogue.put_request(request, 10, 1, ASKED.args).ok()?;
+    Site::new(alloc, 4, catalogue, true).ok()
+}
+
+/// Row and request take memory in the catalogue, and once more at the site.
+#[test]
+fn a_site_over_rows_and_requests_may_find_no_memory(rt: HostRuntime) {
+    let scarce = Scarce::new(rt.alloc());
+    let alone = scarce.refuse_each(|| site_of(&scarce).is_some());
+    let behind = scarce.refuse_each(|| site_behind(&scarce).is_some());
+    let alone = alone.expect(&rt, "a site");
+    assert!(rt;
+        behind.is_some_and(|behind| behind > alone.wrapping_add(5)),
+        "{alone}"
+    );
+}
+
 /// Refuses each growth of the call at a site in turn, until it is answered. Returns how often the call found no memory,
 /// and the site's position then.
 fn refusals<A: Allocator + Copy>(scarce: &Scarce, site: &Site<A>) -> (Option<u64>, u32) {

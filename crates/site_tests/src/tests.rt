@@ -2,4 +2,5 @@
 
 mod answers;
 mod heads;
+mod lasts;
 mod sites;

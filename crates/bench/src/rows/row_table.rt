@@ -1,6 +1,6 @@
 //! A table of rows of 8 bytes.
 
-use key_table::KeyTable;
+use key_table::{KeyTable, Split};
 use std::alloc::{AllocError, Global};
 use std::marker::Model;
 
@@ -31,7 +31,7 @@ impl RowTable {
 
     /// Puts one more version of a key: the key's own bytes.
     pub fn put(&mut self, alloc: Global, key: u64, position: u32) -> Result<(), AllocError> {
-        self.table.reserve(alloc, key)?;
+        self.table.reserve(alloc, key, Split::Halves)?;
         self.table.push(key, position, Some(&key.to_le_bytes()));
         Ok(())
     }

@@ -3,16 +3,18 @@ use std::alloc::Global;
 use std::process::Abort;
 
 /// The letters of refusals, and the number of numbers that each has from 1 on.
-const LETTERS: [(&str, u32); 10] = [
+const LETTERS: [(&str, u32); 12] = [
     ("B", 12),
     ("S", 4),
     ("V", 12),
     ("C", 5),
+    ("D", 3),
+    ("Q", 1),
     ("P", 14),
     ("E", 5),
     ("O", 3),
     ("K", 2),
-    ("L", 9),
+    ("L", 11),
     ("N", 6),
 ];
 

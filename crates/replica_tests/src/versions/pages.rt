@@ -1,6 +1,8 @@
 //! The pages of a table.
 
+use catalogue::Catalogue;
 use row_sets::WriteSet;
+use rows_mv::Versions;
 use schema::Schema;
 use std::alloc::Global;
 use std::process::Abort;
@@ -111,6 +113,39 @@ fn pages_are_pruned_one_at_a_time(rt: HostRuntime) {
         (seen, kept, left, ends),
         (PAGES.len(), ([31; 32], 1), expected, 1)
     );
+}
+
+/// The numbers of pages that table 1 begins with, by the number of rows in rising order, counted by hand. A page of 64
+/// keys stays whole, and the next key begins the next page. A group has 256 pages.
+const WHOLE_PAGES: [(u64, usize); 8] = [
+    (1, 1),
+    (64, 1),
+    (65, 2),
+    (128, 2),
+    (129, 3),
+    (1_000, 16),
+    (16_384, 256),
+    (16_385, 257),
+];
+
+/// The number of pages of versions that begin with rows of the keys from 1 on.
+fn pages_at_first(rt: &impl Abort, alloc: Global, rows: u64) -> usize {
+    let schema = Schema::new(alloc, &TABLES).expect(rt, "memory");
+    let mut catalogue = Catalogue::new(alloc, schema);
+    for key in 1..=rows {
+        let put = catalogue.put_row(1, key, &key.to_le_bytes());
+        assert!(rt; put.is_ok());
+    }
+    let versions = Versions::beginning_with(alloc, catalogue.schema(), catalogue.rows());
+    versions.expect(rt, "memory").pages(1)
+}
+
+#[test]
+fn rows_at_first_leave_whole_pages(rt: HostRuntime) {
+    for (rows, pages) in &WHOLE_PAGES {
+        let found = pages_at_first(&rt, rt.alloc(), *rows);
+        assert_eq!(rt; found, *pages, "{rows} rows");
+    }
 }
 
 // ---- more pages than a group has

@@ -4,6 +4,7 @@ use bpf_bytes::decode;
 use bpf_verify::verify;
 use catalogue::Catalogue;
 use log_entry::{Entry, NamedProgram, to_bytes};
+use log_model::RequestId;
 use schema::Schema;
 use site::{Asked, Site};
 use site_model::{AdditionAnswer, CallAnswer, EntryOutcome};
@@ -43,6 +44,13 @@ fn site_of(alloc: Global, takes_additions: bool) -> Option<Site> {
     Site::new(alloc, 4, catalogue_of(alloc)?, takes_additions).ok()
 }
 
+/// A site before which a request was done, and `None` where memory is wanting.
+fn site_behind(alloc: Global, request: RequestId, reply: u64) -> Option<Site> {
+    let mut catalogue = catalogue_of(alloc)?;
+    catalogue.put_request(request, reply, 3, &[1]).ok()?;
+    Site::new(alloc, 4, catalogue, false).ok()
+}
+
 /// Returns the outcome of one more byte string, and the site then. Returns `None` where memory is wanting, or no
 /// position is left.
 fn taken(site: Site, bytes: &[u8]) -> Option<(Site, EntryOutcome)> {
@@ -64,6 +72,13 @@ impl GivenSite {
     pub(crate) fn new(alloc: Global, takes_additions: bool) -> GivenSite {
         GivenSite {
             site: site_of(alloc, takes_additions),
+        }
+    }
+
+    /// Makes a site before which this request was done, by a call of procedure 3 with the argument 1.
+    pub(crate) fn behind(alloc: Global, request: RequestId, reply: u64) -> GivenSite {
+        GivenSite {
+            site: site_behind(alloc, request, reply),
         }
     }
 

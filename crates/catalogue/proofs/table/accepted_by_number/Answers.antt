@@ -1,17 +1,11 @@
 use Rattle.std.proofs.Common.{Some, ap, ◌∙◌}
-use Rattle.std.specs.Prelude.{Option}
-use Rattle.std.specs.Option.{option_map}
-use Rattle.catalogue.specs.Stored.{NamedProcedure}
-use Rattle.catalogue.proofs.StoredLemmas.{held_under}
+use Rattle.catalogue.proofs.StoredLemmas.{held_as}
 use Rattle.catalogue.proofs.table.accepted_by_number.Goals as goal
 
 pub returns-in-Some : goal.returns-in-Some
 returns-in-Some g c =
-    ap Some c.accepted.ensures
-    ∙ ap (λ (o : Option NamedProcedure). option_map (λ n. n.accepted) o) c.in-Some.ensures.value
-    ∙ held_under c.args.number c.args.table.now.entries
+    ap Some c.accepted.ensures ∙ held_as c.args.number c.args.table.now.entries _ c.in-Some.ensures.value
 
 pub returns-in-None : goal.returns-in-None
 returns-in-None g c =
-    ap (λ (o : Option NamedProcedure). option_map (λ n. n.accepted) o) c.in-None.ensures.value
-    ∙ held_under c.args.number c.args.table.now.entries
+    held_as c.args.number c.args.table.now.entries _ c.in-None.ensures.value

@@ -15,6 +15,6 @@ insert_into-requires-clause-rising g c p = rising_page c.args.pages.now.items c.
 pub returns-clause-done : goal.returns-clause-done
 returns-clause-done g c =
     let ps = c.args.pages.now.items in let i = c.place_of-page.result in let x = c.args.entry in let new = c.insert_into.new.pages.items in
-    ok_map c.insert_into.result ((p : List Slot) → new ≡ into x ps i (get_or ps i p)) (new ≡ in_pages x ps)
-    (λ h. h [] ∙ into_place x ps i [] (within ps c.args.least.now.items c.deref.result.now i c.deref.ensures.value c.requires.least c.place_of-page.ensures.within)
+    ok_map c.insert_into.result ((p : List Slot) → new ≡ into c.args.split x ps i (get_or ps i p)) (new ≡ in_pages c.args.split x ps)
+    (λ h. h [] ∙ into_place c.args.split x ps i [] (within ps c.args.least.now.items c.deref.result.now i c.deref.ensures.value c.requires.least c.place_of-page.ensures.within)
     (c.place_of-page.ensures.place 64 ps (c.deref.ensures.value ∙ c.requires.least) c.requires.filled c.requires.rising ∙ ap (λ (k : ℕ). page_place k ps) c.key.ensures)) c.insert_into.ensures.done

@@ -2,6 +2,7 @@ use Rattle.std.proofs.Common.{◌≡◌, ◌∙◌, ◌<◌, ◌≤◌, ◌+◌,
 use Rattle.std.specs.Prelude.{None, is_ok, Result, Ok, Err, OnOk, OnErr}
 use Rattle.row_chain.specs.Version.{HasRoom}
 use Rattle.row_chain.specs.Slots.{Slot, AreRising, below, chain_at, IsReserved, with_slot}
+use Rattle.key_table.specs.declared.split.Split.{Split}
 use Rattle.key_table.specs.Pages.{all_slots, in_pages, AreFilled, ArePages}
 use Rattle.key_table.specs.Changes.{IsAdded}
 use Rattle.row_chain.proofs.EditLemmas.{nil, is_inserted, some-none}
@@ -15,10 +16,10 @@ record Added (width k : ℕ) (ps new : List (List Slot)) : Type 0 where
   pages : ArePages new
   added : IsAdded width k (all_slots ps) (all_slots new)
 
-made : (width : ℕ) (ps new : List (List Slot)) (k : ℕ) (x : Slot) → ArePages ps → chain_at (all_slots ps) k ≡ None → x.key ≡ k → x.chain.versions ≡ [] → x.chain.width ≡ width → HasRoom x.chain → AreFilled 64 new → length new ≤ length ps + 1 → length ps < 256 → new ≡ in_pages x ps → Added width k ps new
-made width ps new k x pages none key empty wide room filled few small is =
+made : (split : Split) (width : ℕ) (ps new : List (List Slot)) (k : ℕ) (x : Slot) → ArePages ps → chain_at (all_slots ps) k ≡ None → x.key ≡ k → x.chain.versions ≡ [] → x.chain.width ≡ width → HasRoom x.chain → AreFilled 64 new → length new ≤ length ps + 1 → length ps < 256 → new ≡ in_pages split x ps → Added width k ps new
+made split width ps new k x pages none key empty wide room filled few small is =
     let es = all_slots ps in
-    let flat : all_slots new ≡ with_slot x es = ap all_slots is ∙ all-in_pages 64 x ps pages.filled pages.rising in
+    let flat : all_slots new ≡ with_slot x es = ap all_slots is ∙ all-in_pages 64 split x ps pages.filled pages.rising in
     let change = is_inserted es (all_slots new) (below x.key es) k x pages.rising none (ap (λ (j : ℕ). below j es) key) key flat in
     record {
       pages = record { rising = change.rising; filled = filled; few = omega arith };
@@ -81,12 +82,12 @@ pub returns-in_ok-reserve-in-None-clause-pages : goal.returns-in_ok-reserve-in-N
 returns-in_ok-reserve-in-None-clause-pages g c =
     let ps = c.args.pages.now.items in let new = c.insert.new.pages.items in let x = c.reserve.new.self in let r = c.in_ok-reserve-in-None.ensures in
     let none = absent ps c.deref-2.result.now c.args.key c.deref-2.ensures.value c.in-None.ensures.absent in
-    either_way c.insert.result (new ≡ in_pages x ps) (all_slots new ≡ all_slots ps) (ArePages new)
-    (λ h. (made c.args.width ps new c.args.key x c.requires.pages none (r.key ∙ c.new-entry.ensures.key) (r.versions ∙ c.new-entry.ensures.versions) (r.width ∙ c.new-entry.ensures.width) r.room c.insert.ensures.filled c.insert.ensures.few c.requires.room h).pages)
+    either_way c.insert.result (new ≡ in_pages c.args.split x ps) (all_slots new ≡ all_slots ps) (ArePages new)
+    (λ h. (made c.args.split c.args.width ps new c.args.key x c.requires.pages none (r.key ∙ c.new-entry.ensures.key) (r.versions ∙ c.new-entry.ensures.versions) (r.width ∙ c.new-entry.ensures.width) r.room c.insert.ensures.filled c.insert.ensures.few c.requires.room h).pages)
     (pages_same ps new c.requires.pages c.insert.ensures.filled c.insert.ensures.few c.requires.room) c.insert.ensures.done c.insert.ensures.none
 
 pub returns-in_ok-reserve-in-None-clause-added : goal.returns-in_ok-reserve-in-None-clause-added
 returns-in_ok-reserve-in-None-clause-added g c =
     let ps = c.args.pages.now.items in let new = c.insert.new.pages.items in let x = c.reserve.new.self in let r = c.in_ok-reserve-in-None.ensures in
-    ok_map c.insert.result (new ≡ in_pages x ps) (chain_at (all_slots ps) c.args.key ≡ None → IsAdded c.args.width c.args.key (all_slots ps) (all_slots new))
-    (λ h none. (made c.args.width ps new c.args.key x c.requires.pages none (r.key ∙ c.new-entry.ensures.key) (r.versions ∙ c.new-entry.ensures.versions) (r.width ∙ c.new-entry.ensures.width) r.room c.insert.ensures.filled c.insert.ensures.few c.requires.room h).added) c.insert.ensures.done
+    ok_map c.insert.result (new ≡ in_pages c.args.split x ps) (chain_at (all_slots ps) c.args.key ≡ None → IsAdded c.args.width c.args.key (all_slots ps) (all_slots new))
+    (λ h none. (made c.args.split c.args.width ps new c.args.key x c.requires.pages none (r.key ∙ c.new-entry.ensures.key) (r.versions ∙ c.new-entry.ensures.versions) (r.width ∙ c.new-entry.ensures.width) r.room c.insert.ensures.filled c.insert.ensures.few c.requires.room h).added) c.insert.ensures.done

@@ -1,8 +1,6 @@
-use Rattle.std.proofs.Common.{◌≡◌, ◌∙◌, ◌<◌, ◌+◌, ℕ, Bool, true, cond, List, length, take, drop, get_or, set, sym, ap, arith}
+use Rattle.std.proofs.Common.{◌∙◌, sym, arith}
 use Rattle.std.specs.Prelude.{is_ok}
-use Rattle.std.specs.List.{insert}
 use Rattle.std.proofs.lemmas.Bool.{false≢true}
-use Rattle.row_chain.specs.Slots.{Slot}
 use Rattle.key_table.proofs.PageEditLemmas.{halves_done}
 use Rattle.key_table.proofs.group_edits.split_page.Goals as goal
 

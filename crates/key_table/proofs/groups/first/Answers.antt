@@ -1,4 +1,4 @@
-use Rattle.std.proofs.Common.{◌≡◌, ◌+◌, ◌∙◌, ℕ, List, [], ◌∷◌, ◌++◌, drop, sym, ap, arith}
+use Rattle.std.proofs.Common.{◌+◌, ◌∙◌, ℕ, List, drop, sym, ap, arith}
 use Rattle.std.specs.Prelude.{slice_get}
 use Rattle.key_table.specs.Table.{rows_between}
 use Rattle.key_table.specs.Pages.{all_slots}

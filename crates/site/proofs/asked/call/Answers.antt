@@ -11,7 +11,6 @@ use Rattle.site.specs.Run.{CanRun}
 use Rattle.site.specs.Replica.{setting_of}
 use Rattle.site.proofs.SiteLemmas.{can_run}
 use Rattle.site.specs.Answered.{asked_of}
-use Rattle.site.proofs.TakeLemmas.{same_replies}
 use Rattle.site.proofs.CallLemmas.{answer_of_run-takes_memory, on_err, no_procedure, refused_call, repeated_call, run_call, none_found_in, found_in, same_call, reply_fits}
 use Rattle.std.proofs.lemmas.List.{length-map}
 use Rattle.site.proofs.asked.call.Goals as goal
@@ -37,7 +36,7 @@ returns-in-Some-repeated-clause-answer g c entries stands =
     let f = found_in s entries c.procedures-procedures.result.now c.entries_suffice.ensures.procedures stands (c.procedures-procedures.ensures ∙ ap (λ (r : Replica). r.procedures) c.replica.ensures) c.args.asked.name.now c.in-Some.procedure c.found_by_name_is_found_by_number.ensures c.stored_procedures_are_consistent.ensures (sym c.in-Some.is ∙ c.by_name.ensures) in
     let admitted = admits asked.args asked.request f.p c.in-Ok.ensures.admitted.0 (f.answered asked.args asked.request (Ok c.in-Ok.ensures.admitted.0) c.in-Ok.ensures.admitted.1) in
     let first : first_repeated w.beginning.requests (history w (items_of entries)).certified (asked_call (items_of entries) f.p asked) ≡ Some c.in-Some-repeated.position = sym (c.repeated.ensures entries stands) ∙ c.in-Some-repeated.is in
-    ap (Repeated c.in-Some-repeated.position) (c.reply_at-reply.ensures entries (c.replies.ensures ∙ stands.replies) ∙ ap (λ (replies : ℕ → ℕ). replies c.in-Some-repeated.position) (same_replies s entries asked.request))
+    ap (Repeated c.in-Some-repeated.position) (c.reply_to-reply.ensures entries stands.replies)
     ∙ repeated_call w entries asked f.p f.named c.in-Some-repeated.position admitted first
 
 pub complete-requires-clause-can : goal.complete-requires-clause-can

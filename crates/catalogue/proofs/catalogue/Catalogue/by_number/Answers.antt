@@ -7,5 +7,5 @@ use Rattle.catalogue.proofs.catalogue.Catalogue.by_number.Goals as goal
 
 pub returns : goal.returns
 returns g c =
-    c.by_number.ensures ∙ numbered_for c.self.inside.schema c.args.number c.self.inside.procedures c.self.invariant
+    c.by_number.ensures ∙ numbered_for c.self.inside.schema c.args.number c.self.inside.procedures c.self.invariant.for_tables
     ∙ ap (λ (v : SystemCatalogue). option_map (accepted_of v.tables) (by_number v.procedures c.args.number)) c.self.view_is

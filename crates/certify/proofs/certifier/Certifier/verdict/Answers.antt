@@ -3,7 +3,7 @@ use Rattle.schema.specs.Rows.{Writes}
 use Rattle.log_model.specs.declared.request.RequestId.{RequestId}
 use Rattle.log_model.specs.Log.{DoneRequest, CertifiedItem, Call, done_at, first_repeated, verdict_after}
 use Rattle.certify.specs.Comparisons.{comparisons_after}
-use Rattle.certify.specs.Kept.{CertifierState, IsMemoryOf, IsMemoryOfLatest}
+use Rattle.certify.specs.Kept.{CertifierState, IsMemoryOf, IsMemoryOfLatest, latest_of}
 use Rattle.certify.proofs.VerdictLemmas.{repeated_verdict, none_compared_again, none_left_of}
 use Rattle.certify.proofs.certifier.Certifier.verdict.Given as given
 use Rattle.certify.proofs.certifier.Certifier.verdict.Goals as goal
@@ -23,11 +23,11 @@ returns-in-Some-clause-compared g c = λ done past x stands request snapshot.
     none_compared_again c.args.self.now.memory.window done past x c.args.call.now.reads.now c.in-Some.repeated found
 
 latest : (g : given.Over) → (c : goal.After-self-2-1 g) → (done : List DoneRequest) (past : List CertifiedItem) → IsMemoryOf c.args.self.now.memory done past
-    → IsMemoryOfLatest (record { window = c.self.inside.window; count = c.self.inside.count; ring = record { blocks = c.deref.result.now; writes = c.deref-2.result.now } }) past
+    → IsMemoryOfLatest (latest_of c.self.inside.window c.self.inside.count c.deref.result.now c.deref-2.result.now) past
 latest g c done past stands =
     let inside = subst (λ (s : CertifierState). IsMemoryOf s.memory done past) (sym c.self.view_is) stands in
-    subst (λ (blocks : List (List (List ℕ))). IsMemoryOfLatest (record { window = c.self.inside.window; count = c.self.inside.count; ring = record { blocks = blocks; writes = c.deref-2.result.now } }) past) (sym c.deref.ensures.value)
-    (subst (λ (writes : List Writes). IsMemoryOfLatest (record { window = c.self.inside.window; count = c.self.inside.count; ring = record { blocks = c.self.inside.blocks.items; writes = writes } }) past) (sym c.deref-2.ensures.value)
+    subst (λ (blocks : List (List (List ℕ))). IsMemoryOfLatest (latest_of c.self.inside.window c.self.inside.count blocks c.deref-2.result.now) past) (sym c.deref.ensures.value)
+    (subst (λ (writes : List Writes). IsMemoryOfLatest (latest_of c.self.inside.window c.self.inside.count c.self.inside.blocks.items writes) past) (sym c.deref-2.ensures.value)
     (record { count = inside.count; kept = inside.kept }))
 
 new : (g : given.Over) → (c : goal.After-self-2-1 g) → (done : List DoneRequest) (past : List CertifiedItem) (x : Call) → IsMemoryOf c.args.self.now.memory done past → x.request ≡ c.args.call.now.request → first_repeated done past x ≡ None

@@ -91,3 +91,11 @@ returns-clause-once g c d e a b =
 pub returns-in_err-outcomes-clause-once : goal.returns-in_err-outcomes-clause-once
 returns-in_err-outcomes-clause-once g c d e a b =
     c.each_request_commits_once.ensures.once (setting_of c.args.self.now) (world_of c.args.self.now).log d e a b c.keeps_what_was_delivered.ensures.world.log
+
+pub returns-clause-not_before : goal.returns-clause-not_before
+returns-clause-not_before g c d call =
+    c.each_request_commits_once.ensures.not_before (setting_of c.loop-step.self) (world_of c.loop-step.self).log d call c.keeps_what_was_delivered-2.ensures.world.log
+
+pub returns-in_err-outcomes-clause-not_before : goal.returns-in_err-outcomes-clause-not_before
+returns-in_err-outcomes-clause-not_before g c d call =
+    c.each_request_commits_once.ensures.not_before (setting_of c.args.self.now) (world_of c.args.self.now).log d call c.keeps_what_was_delivered.ensures.world.log

@@ -13,5 +13,4 @@ returns-then-len g c =
       omega (arith, v, held),
       of_log_first g.J.LogSetting.setting me.replica me.seen c.args.seen.now c.self.invariant (c.agrees.ensures held),
       found c.beginnings_say_the_same.ensures.verdicts g.J.LogSetting.setting me.replica me.seen c.args.seen.now c.len-then-len.result c.verdict_at.result.verdict c.self.invariant (c.agrees.ensures held) c.len-then-len.ensures.len c.requires c.verdict_at.ensures.log_verdict,
-      c.self.invariant.none_before,
     )

@@ -15,9 +15,9 @@ ok_gives (Err e) P Q p f = tt
 pub returns-clause-fits : goal.returns-clause-fits
 returns-clause-fits g c =
     subst (λ (r : SiteReplica). IfOk c.call.result (λ answer. (order : Order) (bytes : List ℕ) → StandsForOrder r order → answered answer ≡ Submitted bytes → IsAskedOf (setting_of r) order (asked_of c.args.asked))) c.self.view_is
-    (ok_gives c.call.result _ _ c.call.ensures.fits (λ answer fits order bytes stands told. fits (order_entries (setting_of c.self.inside.replica) order) bytes stands told))
+    (ok_gives c.call.result _ _ c.call.ensures.fits (λ answer fits order bytes stands told. fits (order_entries (setting_of c.self.inside.replica) order) bytes stands.log told))
 
 pub returns-clause-memory : goal.returns-clause-memory
 returns-clause-memory g c =
     subst (λ (r : SiteReplica). OnErr c.call.result ((order : Order) → StandsForOrder r order → IsTrue (takes_memory (call_answer (setting_of r) order (asked_of c.args.asked))))) c.self.view_is
-    (on_err_gives c.call.result _ _ c.call.ensures.memory (λ takes order stands. takes (order_entries (setting_of c.self.inside.replica) order) stands))
+    (on_err_gives c.call.result _ _ c.call.ensures.memory (λ takes order stands. takes (order_entries (setting_of c.self.inside.replica) order) stands.log))

@@ -1,7 +1,7 @@
 use Rattle.std.proofs.Common.{List, ◌≡◌, subst}
 use Rattle.std.specs.FinMap.{entries as map_entries}
 use Rattle.std.specs.Prelude.{IfOk}
-use Rattle.log_model.specs.Log.{Beginning, Catalogue}
+use Rattle.log_model.specs.Log.{Beginning}
 use Rattle.log_model.specs.Entries.{Entry}
 use Rattle.replica.specs.Replica.{StandsFor, rows_kept}
 use Rattle.site.specs.Replica.{SiteReplica}

@@ -1,10 +1,12 @@
 //! The catalogue of a node.
 
 ghost use Rattle.std.specs.Prelude.{◌≡◌};
+ghost use Rattle.log_model.specs.Log.{reply_done};
 ghost use Rattle.catalogue.specs.Catalogue.{system_setting};
 
 use catalogue::Catalogue;
 use locked_replica::LogSetting;
+use log_model::RequestId;
 use schema::Schema;
 use std::alloc::{Allocator, Global};
 use std::marker::{Model, PhantomData};
@@ -12,7 +14,7 @@ use std::marker::{Model, PhantomData};
 /// The catalogue and the window of a node's replicas at first. Contracts see the catalogue; both are the setting of the
 /// node's log.
 #[derive(Drop)]
-pub(crate) struct NodeCatalogue<J: LogSetting, P: Allocator + Copy = Global> {
+pub struct NodeCatalogue<J: LogSetting, P: Allocator + Copy = Global> {
     catalogue: Catalogue<P>,
     window: u32,
     of: PhantomData<J>,
@@ -34,7 +36,7 @@ impl<J: LogSetting, P: Allocator + Copy> Model for NodeCatalogue<J, P> {
 
 impl<J: LogSetting, P: Allocator + Copy> NodeCatalogue<J, P> {
     /// Makes a catalogue and a window that are the setting.
-    pub(crate) fn new(catalogue: Catalogue<P>, window: u32) -> NodeCatalogue<J, P>
+    pub fn new(catalogue: Catalogue<P>, window: u32) -> NodeCatalogue<J, P>
         requires { J.setting ≡ system_setting catalogue window }
         ensures { result ≡ catalogue }
     {
@@ -46,21 +48,28 @@ impl<J: LogSetting, P: Allocator + Copy> NodeCatalogue<J, P> {
     }
 
     /// The catalogue.
-    pub(crate) fn get(&self) -> &Catalogue<P>
+    pub fn get(&self) -> &Catalogue<P>
         ensures { result.now ≡ self.now }
     {
         &self.catalogue
     }
 
+    /// The reply of a request that was done before the log.
+    pub fn reply(&self, request: Option<RequestId>) -> Option<u64>
+        ensures { result ≡ reply_done J.setting.beginning.requests request }
+    {
+        self.catalogue.requests().reply(request)
+    }
+
     /// The tables of the setting.
-    pub(crate) fn schema(&self) -> &Schema<P>
+    pub fn schema(&self) -> &Schema<P>
         ensures { result.now ≡ J.setting.tables }
     {
         self.catalogue.schema()
     }
 
     /// The window.
-    pub(crate) fn window(&self) -> u32
+    pub fn window(&self) -> u32
         ensures { J.setting ≡ system_setting self.now result }
     {
         self.window

@@ -1,0 +1,134 @@
+//! What each session has done last.
+
+ghost use Rattle.std.specs.Prelude.{◌≡◌, OnOk, IfOk};
+ghost use Rattle.std.specs.Option.{option_copied};
+ghost use Rattle.std.specs.FinMap.{empty, get};
+ghost use Rattle.log_entry.specs.Head.{head_of};
+ghost use Rattle.log_model.specs.Log.{DoneRequest as Done};
+ghost use Rattle.site_model.specs.Sessions.{done_by, is_no_earlier, lasts_of, with_done, with_done_if};
+
+use crate::state::SiteReplica;
+use catalogue::DoneRequest;
+use log_entry::{EntryHead, head_of};
+use log_model::RequestId;
+use site_model::EntryOutcome;
+use std::alloc::{AllocError, Allocator, Global};
+use std::collections::BTreeMap;
+use std::marker::Model;
+
+/// The request of the greatest number that each session has done, by session. Contracts see a finite map.
+#[derive(Drop)]
+pub struct LastRequests<A: Allocator = Global> {
+    requests: BTreeMap<u32, DoneRequest<A>, A>,
+}
+
+impl<A: Allocator> Model for LastRequests<A> {
+    ghost use Rattle.std.specs.Coded.{coded_ℕ};
+    ghost use Rattle.std.specs.FinMap.{code, from_sorted};
+    ghost use Rattle.std.specs.BTreeMap.{IsOrdered};
+    ghost use Rattle.std.specs.Ordering.{nat_cmp};
+    ghost use Rattle.log_model.specs.Codes.{done_code};
+    ghost use Rattle.site_model.specs.Sessions.{LastRequests};
+
+    ghost Value = { LastRequests };
+
+    ghost coded = { code coded_ℕ done_code };
+
+    ghost view = { λ l. from_sorted l.requests.entries };
+
+    ghost invariant = { λ l. IsOrdered nat_cmp l.requests };
+}
+
+impl<A: Allocator + Copy> LastRequests<A> {
+    /// No requests. Takes no memory.
+    pub(crate) fn new(alloc: A) -> LastRequests<A>
+        ensures { result ≡ empty }
+    {
+        LastRequests {
+            requests: BTreeMap::new(alloc),
+        }
+    }
+
+    /// The last request of a session, where the session has done something.
+    pub fn last(&self, session: u32) -> Option<&DoneRequest<A>>
+        ensures { option_copied result ≡ get self.now session }
+    {
+        self.requests.get(&session)
+    }
+
+    /// Takes one more request that was done.
+    pub(crate) fn note(&mut self, done: DoneRequest<A>) -> Result<(), AllocError>
+        ensures noted { OnOk result (self.new ≡ with_done self.old done) }
+    {
+        let request = done.request();
+        if !is_no_earlier(self.last(request.session), request) {
+            return Ok(());
+        }
+        self.requests.insert(request.session, done)?;
+        Ok(())
+    }
+}
+
+/// Tells whether a request has no lower number than the last of its session.
+fn is_no_earlier<A: Allocator>(last: Option<&DoneRequest<A>>, request: RequestId) -> bool
+    ensures { (done : Done) → done.request ≡ request → result ≡ is_no_earlier (option_copied last.entry) done }
+{
+    match last {
+        Some(last) => last.request().sequence <= request.sequence,
+        None => true,
+    }
+}
+
+/// The last requests of those that were done. Their arguments are copied.
+pub(crate) fn lasts_of<A: Allocator + Copy, P: Allocator>(
+    alloc: A,
+    done: &[DoneRequest<P>],
+) -> Result<LastRequests<A>, AllocError>
+    ensures { IfOk result (λ lasts. lasts ≡ lasts_of done.now) }
+{
+    let mut lasts = LastRequests::new(alloc);
+    for one in done {
+        let args = Vec::from_slice(alloc, one.args())?;
+        lasts.note(DoneRequest::new(one.request(), one.reply(), one.procedure(), args))?;
+    }
+    Ok(lasts)
+}
+
+/// What the bytes of a call with a request have done, where the call committed.
+fn done_by<A: Allocator + Copy>(
+    alloc: A,
+    bytes: &[u8],
+    outcome: EntryOutcome,
+) -> Result<Option<DoneRequest<A>>, AllocError>
+    ensures { IfOk result (λ done. done ≡ done_by (head_of bytes.now) outcome) }
+{
+    let EntryOutcome::Committed(reply) = outcome else {
+        return Ok(None);
+    };
+    let Some(EntryHead::Call(call)) = head_of(bytes) else {
+        return Ok(None);
+    };
+    let Some(request) = call.request else {
+        return Ok(None);
+    };
+    let args = Vec::from_slice(alloc, call.args)?;
+    Ok(Some(DoneRequest::new(request, reply, call.procedure, args)))
+}
+
+impl<A: Allocator + Copy> SiteReplica<A> {
+    /// Takes what the bytes at the last position have done by this outcome.
+    pub(crate) fn note_done(
+        &mut self,
+        bytes: &[u8],
+        outcome: EntryOutcome,
+    ) -> Result<(), AllocError>
+        ensures { OnOk result (self.new ≡ record self.old {
+          lasts = with_done_if self.old.lasts (done_by (head_of bytes.now) outcome);
+        }) }
+    {
+        match done_by(self.alloc, bytes, outcome)? {
+            Some(done) => self.lasts.note(done),
+            None => Ok(()),
+        }
+    }
+}
