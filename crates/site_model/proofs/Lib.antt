@@ -1,4 +1,3 @@
 pub mod StandingLemmas
 pub mod OrderLemmas
-mod SessionLemmas
 pub mod FitLemmas

@@ -1,27 +1,37 @@
--- Orders and their logs.
-use Rattle.std.proofs.Common.{◌≡◌, ℕ, ◌+◌, List, [], ◌∷◌, ◌++◌, length, refl, ◌∙◌, arith}
+-- Orders, their logs, and the sessions behind them.
+use Rattle.std.proofs.Common.{◌≡◌, ℕ, ◌+◌, List, [], ◌∷◌, ◌++◌, length, refl, ap, ◌∙◌, arith}
 use Rattle.std.specs.List.{fold}
 use Rattle.std.proofs.lemmas.List.{length-append}
 use Rattle.std.proofs.lemmas.List.Sums.{fold-append}
-use Rattle.log_model.specs.Entries.{Entry}
+use Rattle.site_model.specs.Sessions.{Sessions, lasts_of, sessions_with}
 use Rattle.site_model.specs.Standing.{SiteSetting}
-use Rattle.site_model.specs.Order.{Order, order_entries, with_bytes}
+use Rattle.site_model.specs.Order.{Order, Followed, before_order, followed, followed_by, next_outcome, order_entries, sessions_after, with_bytes}
 
 pub first_entries : (s : SiteSetting) → order_entries s [] ≡ []
-unfolding order_entries
+unfolding followed
 first_entries s = refl
 
-pub next_entries : (s : SiteSetting) (order : Order) (bytes : List ℕ) → order_entries s (order ++ bytes ∷ []) ≡ with_bytes s (order_entries s order) bytes
-unfolding order_entries
-next_entries s order bytes = fold-append (with_bytes s) [] order (bytes ∷ [])
+pub first_sessions : (s : SiteSetting) → sessions_after s [] ≡ record { opened = 0; lasts = lasts_of s.setting.beginning.requests }
+unfolding followed
+first_sessions s = refl
 
-count_from : (s : SiteSetting) (entries : List Entry) (order : Order) → length (fold (with_bytes s) entries order) ≡ length entries + length order
-count_from s entries [] = omega arith
-count_from s entries (bytes ∷ order) =
-    let more = count_from s (with_bytes s entries bytes) order in
-    let one : length (with_bytes s entries bytes) ≡ length entries + 1 = length-append entries _ in
+one_more : (s : SiteSetting) (order : Order) (bytes : List ℕ) → followed s (order ++ bytes ∷ []) ≡ followed_by s (followed s order) bytes
+unfolding followed
+one_more s order bytes = fold-append (followed_by s) (before_order s) order (bytes ∷ [])
+
+pub next_entries : (s : SiteSetting) (order : Order) (bytes : List ℕ) → order_entries s (order ++ bytes ∷ []) ≡ with_bytes s (sessions_after s order) (order_entries s order) bytes
+next_entries s order bytes = ap (λ (f : Followed). f.entries) (one_more s order bytes)
+
+pub next_sessions : (s : SiteSetting) (order : Order) (bytes : List ℕ) → sessions_after s (order ++ bytes ∷ []) ≡ sessions_with (sessions_after s order) bytes (next_outcome s order bytes)
+next_sessions s order bytes = ap (λ (f : Followed). f.sessions) (one_more s order bytes)
+
+count_from : (s : SiteSetting) (f : Followed) (order : Order) → length (fold (followed_by s) f order).entries ≡ length f.entries + length order
+count_from s f [] = omega arith
+count_from s f (bytes ∷ order) =
+    let more = count_from s (followed_by s f bytes) order in
+    let one : length (with_bytes s f.sessions f.entries bytes) ≡ length f.entries + 1 = length-append f.entries _ in
     omega arith
 
 pub count_entries : (s : SiteSetting) (order : Order) → length (order_entries s order) ≡ length order
-unfolding order_entries
-count_entries s order = count_from s [] order ∙ (let none : 0 + length order ≡ length order = omega arith in none)
+unfolding followed
+count_entries s order = count_from s (before_order s) order ∙ (let none : 0 + length order ≡ length order = omega arith in none)

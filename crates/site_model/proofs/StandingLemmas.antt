@@ -1,5 +1,5 @@
 -- What stands at the next position, by cases.
-use Rattle.std.proofs.Common.{◌≡◌, ℕ, suc, ◌+◌, ◌≤◌, ◌<◌, ◌==◌, nat_le, nat_eq, Bool, true, false, not, cond, ◌&&◌, List, [], ◌∷◌, length, drop, Option, Some, None, All, refl, sym, ap, subst, ◌∙◌, arith}
+use Rattle.std.proofs.Common.{◌≡◌, ℕ, suc, ◌+◌, ◌≤◌, ◌<◌, ◌^◌, ◌==◌, nat_le, nat_lt, nat_eq, Bool, true, false, not, cond, ◌&&◌, List, [], ◌∷◌, length, drop, Option, Some, None, All, refl, sym, ap, subst, ◌∙◌, arith}
 use Rattle.std.proofs.lemmas.Bool.Decides.{nat_tests}
 use Rattle.std.proofs.lemmas.List.Elements.{All-take, All-drop, All-tail}
 use Rattle.schema.specs.declared.limits.TheConstants.{MAX_ARGUMENTS}
@@ -13,10 +13,12 @@ use Rattle.log_model.specs.Name.{is_name}
 use Rattle.program_checks.specs.ProgramCheck.{Passed, Failed}
 use Rattle.program_checks.specs.Check.{check_of}
 use Rattle.log_model.specs.OpenRequest.{has_zero}
-use Rattle.log_entry.specs.Head.{CallHead, AdditionHead, NamedProcedure, part, field, request_of, call_of, call_head, procedure_of as named_procedure_of, addition_head, head_of}
+use Rattle.log_entry.specs.Head.{Head, CallHead, AdditionHead, NamedProcedure, part, field, request_of, call_of, call_head, procedure_of as named_procedure_of, addition_head, head_of}
 use Rattle.site_model.specs.declared.cause.NothingCause.{NothingCause}
 use Rattle.site_model.specs.declared.cause.NothingCause.TheVariants as cause
-use Rattle.site_model.specs.Standing.{SiteSetting, Standing, StandsAs, IsDecided, IsNothing, executed, is_decided, takes_arguments, is_true, call_standing, checked_standing, addition_standing, standing_of_head, standing}
+use Rattle.site_model.specs.declared.origin.Origin.{Origin}
+use Rattle.site_model.specs.Sessions.{Sessions, is_opening, session_cause, session_opened}
+use Rattle.site_model.specs.Standing.{SiteSetting, Standing, StandsAs, IsDecided, OpensSession, IsNothing, executed, is_decided, takes_arguments, is_true, request_standing, call_standing, checked_standing, addition_standing, standing_of_head, standing, unless_opened}
 use Rattle.site_model.specs.Order.{greater, unused_number, call_of_none, entry_of_none, entry_standing}
 
 -- ---- a call of no procedure does nothing
@@ -61,36 +63,43 @@ carried_none w log snapshot request =
 
 -- ---- cases
 
--- where a call isn't nothing its snapshot is before its position; and where it stands it is of a procedure of its snapshot
-pub record StandsWell (w : Setting) (log : Log) (call : Call) (bytes : List ℕ) : Type 0 where
+-- where a call stands its snapshot is before its position, nothing is against it for its session's sake, and it is of a
+-- procedure of its snapshot
+pub record StandsWell (s : SiteSetting) (known : Sessions) (log : Log) (call : Call) (bytes : List ℕ) : Type 0 where
   pub recent : call.snapshot ≤ length log
-  pub undecided : is_decided w log call ≡ false
-  pub takes : takes_arguments (procedure_of w log call) call.args ≡ true
-  pub true_to : is_true w log call bytes ≡ true
+  pub in_session : session_cause s.origin known call.request ≡ None
+  pub undecided : is_decided s.setting log call ≡ false
+  pub takes : takes_arguments (procedure_of s.setting log call) call.args ≡ true
+  pub true_to : is_true s.setting log call bytes ≡ true
 
-pub call_cases : (P : Standing → Type 0) (w : Setting) (log : Log) (call : Call) (bytes : List ℕ)
-    → ((c : NothingCause) → P (IsNothing c))
-    → (call.snapshot ≤ length log → is_decided w log call ≡ true → P (IsDecided call))
-    → (StandsWell w log call bytes → P (StandsAs (CallEntry (executed w log call))))
-    → P (call_standing w log call bytes)
-call_cases P w log call bytes nothing decided stands =
-    elim (nat_le call.snapshot (length log)) as (λ a. nat_le call.snapshot (length log) ≡ a → P (cond (not a) (IsNothing cause.Snapshot) (cond (is_decided w log call) (IsDecided call) (cond (not (takes_arguments (procedure_of w log call) call.args)) (IsNothing cause.Procedure) (cond (is_true w log call bytes) (StandsAs (CallEntry (executed w log call))) (IsNothing cause.Untrue)))))) [
-      | false ↦ λ _. nothing cause.Snapshot
-      | true ↦ λ le.
-          let recent : call.snapshot ≤ length log = grind (arith, nat_tests) in
-          elim (is_decided w log call) as (λ b. is_decided w log call ≡ b → P (cond b (IsDecided call) (cond (not (takes_arguments (procedure_of w log call) call.args)) (IsNothing cause.Procedure) (cond (is_true w log call bytes) (StandsAs (CallEntry (executed w log call))) (IsNothing cause.Untrue))))) [
-            | true ↦ λ d. decided recent d
-            | false ↦ λ undecided.
-                elim (takes_arguments (procedure_of w log call) call.args) as (λ b. takes_arguments (procedure_of w log call) call.args ≡ b → P (cond (not b) (IsNothing cause.Procedure) (cond (is_true w log call bytes) (StandsAs (CallEntry (executed w log call))) (IsNothing cause.Untrue)))) [
-                  | false ↦ λ _. nothing cause.Procedure
-                  | true ↦ λ takes.
-                      elim (is_true w log call bytes) as (λ b. is_true w log call bytes ≡ b → P (cond b (StandsAs (CallEntry (executed w log call))) (IsNothing cause.Untrue))) [
-                        | false ↦ λ _. nothing cause.Untrue
-                        | true ↦ λ t. stands (record { recent = recent; undecided = undecided; takes = takes; true_to = t })
-                      ] refl
-                ] refl
-          ] refl
-    ] refl
+module _ (P : Standing → Type 0) (s : SiteSetting) (known : Sessions) (log : Log) (call : Call) (bytes : List ℕ)
+    (nothing : (c : NothingCause) → P (IsNothing c))
+    (decided : call.snapshot ≤ length log → session_cause s.origin known call.request ≡ None → is_decided s.setting log call ≡ true → P (IsDecided call))
+    (stands : StandsWell s known log call bytes → P (StandsAs (CallEntry (executed s.setting log call)))) where
+  abbrev w : Setting
+  w = s.setting
+
+  -- behind both tests of what is known
+  by_tests : call.snapshot ≤ length log → session_cause s.origin known call.request ≡ None
+      → (d : Bool) → is_decided w log call ≡ d → (t : Bool) → takes_arguments (procedure_of w log call) call.args ≡ t → (r : Bool) → is_true w log call bytes ≡ r
+      → P (cond d (IsDecided call) (cond (not t) (IsNothing cause.Procedure) (cond r (StandsAs (CallEntry (executed w log call))) (IsNothing cause.Untrue))))
+  by_tests recent inside true d t et r er = decided recent inside d
+  by_tests recent inside false d false et r er = nothing cause.Procedure
+  by_tests recent inside false d true et false er = nothing cause.Untrue
+  by_tests recent inside false d true et true er =
+      stands (record { recent = recent; in_session = inside; undecided = d; takes = et; true_to = er })
+
+  by_session : call.snapshot ≤ length log → (o : Option NothingCause) → session_cause s.origin known call.request ≡ o → P (request_standing w log call bytes o)
+  by_session recent (Some why) e = nothing why
+  by_session recent None e =
+      by_tests recent e (is_decided w log call) refl (takes_arguments (procedure_of w log call) call.args) refl (is_true w log call bytes) refl
+
+  pub call_cases : P (call_standing s known log call bytes)
+  call_cases = by_snapshot (nat_le call.snapshot (length log)) refl
+    where
+      by_snapshot : (b : Bool) → nat_le call.snapshot (length log) ≡ b → P (cond (not b) (IsNothing cause.Snapshot) (request_standing w log call bytes (session_cause s.origin known call.request)))
+      by_snapshot false e = nothing cause.Snapshot
+      by_snapshot true e = by_session (grind (arith, nat_tests)) (session_cause s.origin known call.request) refl
 
 pub addition_cases : (P : Standing → Type 0) (s : SiteSetting) (p : NamedProcedure)
     → ((c : NothingCause) → P (IsNothing c))
@@ -108,35 +117,73 @@ addition_cases P s p nothing stands =
           ] refl
     ] refl
 
-pub standing_cases : (P : Standing → Type 0) (s : SiteSetting) (log : Log) (bytes : List ℕ)
-    → ((c : NothingCause) → P (IsNothing c))
-    → ((call : Call) (reply : ℕ) → head_of bytes ≡ Some (CallHead call reply) → P (call_standing s.setting log call bytes))
-    → ((p : NamedProcedure) → head_of bytes ≡ Some (AdditionHead p) → P (addition_standing s p))
-    → P (standing s log bytes)
-unfolding standing
-standing_cases P s log bytes nothing call addition =
-    elim (head_of bytes) as (λ h. head_of bytes ≡ h → P (standing_of_head s log bytes h)) [
-      | None ↦ λ _. nothing cause.Unreadable
-      | Some (CallHead c reply) ↦ λ e. call c reply e
-      | Some (AdditionHead p) ↦ λ e. addition p e
-    ] refl
+module _ (P : Standing → Type 0) (s : SiteSetting) (known : Sessions) (log : Log) (bytes : List ℕ)
+    (nothing : (c : NothingCause) → P (IsNothing c))
+    (opens : (session : ℕ) → session_opened s.origin known.opened bytes ≡ Some session → P (OpensSession session))
+    (call : (call : Call) (reply : ℕ) → head_of bytes ≡ Some (CallHead call reply) → P (call_standing s known log call bytes))
+    (addition : (p : NamedProcedure) → head_of bytes ≡ Some (AdditionHead p) → P (addition_standing s p)) where
+  by_head : (h : Option Head) → head_of bytes ≡ h → P (standing_of_head s known log bytes h)
+  by_head None e = nothing cause.Unreadable
+  by_head (Some (CallHead c reply)) e = call c reply e
+  by_head (Some (AdditionHead p)) e = addition p e
 
-pub stands_as_call : (s : SiteSetting) (log : Log) (bytes : List ℕ) (call : Call) (reply : ℕ) → head_of bytes ≡ Some (CallHead call reply) → standing s log bytes ≡ call_standing s.setting log call bytes
-unfolding standing
-stands_as_call s log bytes call reply e = ap (standing_of_head s log bytes) e
+  pub standing_cases : P (standing s known log bytes)
+  unfolding standing
+  standing_cases = by_opening (session_opened s.origin known.opened bytes) refl
+    where
+      by_opening : (o : Option ℕ) → session_opened s.origin known.opened bytes ≡ o → P (unless_opened o (standing_of_head s known log bytes (head_of bytes)))
+      by_opening (Some session) e = opens session e
+      by_opening None e = by_head (head_of bytes) refl
 
-pub stands_as_addition : (s : SiteSetting) (log : Log) (bytes : List ℕ) (p : NamedProcedure) → head_of bytes ≡ Some (AdditionHead p) → standing s log bytes ≡ addition_standing s p
+-- bytes that open a session are neither a call nor an addition
+pub opening_has_no_head : (bytes : List ℕ) → is_opening bytes ≡ true → head_of bytes ≡ None
+unfolding head_of
+opening_has_no_head [] e = absurd cc
+opening_has_no_head (kind ∷ []) e = absurd cc
+opening_has_no_head (kind ∷ mark ∷ more) e = by_kind (kind == 0) refl
+  where
+    by_kind : (b : Bool) → (kind == 0) ≡ b → head_of (kind ∷ mark ∷ more) ≡ None
+    by_kind false z = absurd (let bad : false ≡ true = ap (λ (b : Bool). b && ((mark == 2) && (length more == 16))) (sym z) ∙ e in cc)
+    by_kind true z =
+        let is : kind ≡ 0 = grind (arith, nat_tests) in
+        ap (λ (k : ℕ). head_of (k ∷ mark ∷ more)) is
+
+opened_is_opening : (o : Option Origin) (opened : ℕ) (bytes : List ℕ) (session : ℕ) → session_opened o opened bytes ≡ Some session → is_opening bytes ≡ true
+opened_is_opening None opened bytes session e = absurd cc
+opened_is_opening (Some origin) opened bytes session e = by_test (is_opening bytes) refl
+  where
+    by_test : (b : Bool) → is_opening bytes ≡ b → is_opening bytes ≡ true
+    by_test true z = z
+    by_test false z = absurd (let none : None ≡ Some session = ap (λ (b : Bool). cond (b && nat_lt (origin.sessions + opened + 1) (2 ^ 32)) (Some (origin.sessions + opened + 1)) None) (sym z) ∙ e in cc)
+
+-- bytes with a head open no session
+pub head_opens_none : (o : Option Origin) (opened : ℕ) (bytes : List ℕ) (h : Head) → head_of bytes ≡ Some h → session_opened o opened bytes ≡ None
+head_opens_none o opened bytes h head = by_opening (session_opened o opened bytes) refl
+  where
+    by_opening : (found : Option ℕ) → session_opened o opened bytes ≡ found → session_opened o opened bytes ≡ None
+    by_opening None e = e
+    by_opening (Some session) e = absurd (let none = opening_has_no_head bytes (opened_is_opening o opened bytes session e) in cc)
+
+pub stands_by_head : (s : SiteSetting) (known : Sessions) (log : Log) (bytes : List ℕ) (h : Head) → head_of bytes ≡ Some h → standing s known log bytes ≡ standing_of_head s known log bytes (Some h)
 unfolding standing
-stands_as_addition s log bytes p e = ap (standing_of_head s log bytes) e
+stands_by_head s known log bytes h e =
+    ap (λ (o : Option ℕ). unless_opened o (standing_of_head s known log bytes (head_of bytes))) (head_opens_none s.origin known.opened bytes h e)
+    ∙ ap (standing_of_head s known log bytes) e
+
+pub stands_as_call : (s : SiteSetting) (known : Sessions) (log : Log) (bytes : List ℕ) (call : Call) (reply : ℕ) → head_of bytes ≡ Some (CallHead call reply) → standing s known log bytes ≡ call_standing s known log call bytes
+stands_as_call s known log bytes call reply e = stands_by_head s known log bytes (CallHead call reply) e
+
+pub stands_as_addition : (s : SiteSetting) (known : Sessions) (log : Log) (bytes : List ℕ) (p : NamedProcedure) → head_of bytes ≡ Some (AdditionHead p) → standing s known log bytes ≡ addition_standing s p
+stands_as_addition s known log bytes p e = stands_by_head s known log bytes (AdditionHead p) e
 
 -- ---- what stands is placed, carries its run, and fits the log
 
 abbrev Placed : SiteSetting → Log → ℕ → Standing → Type 0
 Placed s log n st = IsPlaced n (item_of (entry_standing s.setting log st))
 
-pub placed : (s : SiteSetting) (log : Log) (bytes : List ℕ) (n : ℕ) → length log ≡ n → IsPlaced n (item_of (entry_standing s.setting log (standing s log bytes)))
-placed s log bytes n count = standing_cases (Placed s log n) s log bytes nothing
-    (λ call reply _. call_cases (Placed s log n) s.setting log call bytes nothing (λ recent _. omega arith) (λ well. let recent = well.recent in omega arith))
+pub placed : (s : SiteSetting) (known : Sessions) (log : Log) (bytes : List ℕ) (n : ℕ) → length log ≡ n → IsPlaced n (item_of (entry_standing s.setting log (standing s known log bytes)))
+placed s known log bytes n count = standing_cases (Placed s log n) s known log bytes nothing (λ _ _. omega arith)
+    (λ call reply _. call_cases (Placed s log n) s known log call bytes nothing (λ recent _ _. omega arith) (λ well. let recent = well.recent in omega arith))
     (λ p _. addition_cases (Placed s log n) s p nothing (λ q _. tt))
   where
     nothing : (c : NothingCause) → Placed s log n (IsNothing c)
@@ -145,9 +192,9 @@ placed s log bytes n count = standing_cases (Placed s log n) s log bytes nothing
 abbrev Carried : SiteSetting → Log → Standing → Type 0
 Carried s log st = IsCarried s.setting log (entry_standing s.setting log st)
 
-pub carried : (s : SiteSetting) (log : Log) (bytes : List ℕ) → IsCarried s.setting log (entry_standing s.setting log (standing s log bytes))
-carried s log bytes = standing_cases (Carried s log) s log bytes nothing
-    (λ call reply _. call_cases (Carried s log) s.setting log call bytes nothing (λ _ _. carried_none s.setting log call.snapshot call.request) (λ _. record { looks = refl; writes = refl; reply = refl }))
+pub carried : (s : SiteSetting) (known : Sessions) (log : Log) (bytes : List ℕ) → IsCarried s.setting log (entry_standing s.setting log (standing s known log bytes))
+carried s known log bytes = standing_cases (Carried s log) s known log bytes nothing (λ _ _. carried_none s.setting log (length log) None)
+    (λ call reply _. call_cases (Carried s log) s known log call bytes nothing (λ _ _ _. carried_none s.setting log call.snapshot call.request) (λ _. record { looks = refl; writes = refl; reply = refl }))
     (λ p _. addition_cases (Carried s log) s p nothing (λ q _. tt))
   where
     nothing : (c : NothingCause) → Carried s log (IsNothing c)
@@ -189,13 +236,14 @@ takes (Some q) args p e t are =
 abbrev IsItemOf : SiteSetting → Log → Standing → Type 0
 IsItemOf s log st = FitsLog s.setting log (item_of (entry_standing s.setting log st))
 
-pub item : (s : SiteSetting) (log : Log) (bytes : List ℕ) → All (λ b. b < 256) bytes → ((p : StoredProcedure) → standing s log bytes ≡ StandsAs (AdditionEntry p) → IsSafe s.setting.tables p)
-    → FitsLog s.setting log (item_of (entry_standing s.setting log (standing s log bytes)))
-item s log bytes are safe = standing_cases (IsItemOf s log) s log bytes nothing
-    (λ call reply head. call_cases (IsItemOf s log) s.setting log call bytes nothing
-    (λ _ _. fits_none (procedures_after s.setting log call.snapshot) call.snapshot call.request)
+pub item : (s : SiteSetting) (known : Sessions) (log : Log) (bytes : List ℕ) → All (λ b. b < 256) bytes → ((p : StoredProcedure) → standing s known log bytes ≡ StandsAs (AdditionEntry p) → IsSafe s.setting.tables p)
+    → FitsLog s.setting log (item_of (entry_standing s.setting log (standing s known log bytes)))
+item s known log bytes are safe = standing_cases (IsItemOf s log) s known log bytes nothing
+    (λ _ _. fits_none (procedures_after s.setting log (length log)) (length log) None)
+    (λ call reply head. call_cases (IsItemOf s log) s known log call bytes nothing
+    (λ _ _ _. fits_none (procedures_after s.setting log call.snapshot) call.snapshot call.request)
     (λ well p known. takes (procedure_of s.setting log call) call.args p known well.takes (args_bytes bytes call reply are head)))
-    (λ p head. addition_cases (IsItemOf s log) s p nothing (λ q e. safe q (stands_as_addition s log bytes p head ∙ e)))
+    (λ p head. addition_cases (IsItemOf s log) s p nothing (λ q e. safe q (stands_as_addition s known log bytes p head ∙ e)))
   where
     nothing : (c : NothingCause) → IsItemOf s log (IsNothing c)
     nothing c = fits_none (procedures_after s.setting log (length log)) (length log) None

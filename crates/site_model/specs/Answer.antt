@@ -14,12 +14,14 @@ use Rattle.log_entry.specs.Head.{NamedProcedure}
 use Rattle.program_checks.specs.ProgramCheck.{ProgramCheck, Passed, Failed}
 use Rattle.program_checks.specs.Check.{check_of}
 use Rattle.site_model.specs.declared.answer.CallAnswer.{CallAnswer}
-use Rattle.site_model.specs.declared.answer.CallAnswer.TheVariants.{Refused, Repeated, Cancelled, Read, Submitted}
+use Rattle.site_model.specs.declared.answer.CallAnswer.TheVariants.{Refused, OutOfSession, Repeated, Cancelled, Read, Submitted}
 use Rattle.site_model.specs.declared.answer.AdditionAnswer.{AdditionAnswer}
 use Rattle.site_model.specs.declared.answer.AdditionAnswer.TheVariants as addition
 use Rattle.site_model.specs.declared.answer.AdditionRefusal.TheVariants as refusal
+use Rattle.site_model.specs.declared.cause.NothingCause.{NothingCause}
+use Rattle.site_model.specs.Sessions.{Sessions, session_cause}
 use Rattle.site_model.specs.Standing.{SiteSetting, executed}
-use Rattle.site_model.specs.Order.{Order, order_entries, reply_to}
+use Rattle.site_model.specs.Order.{Order, order_entries, reply_to, sessions_after}
 
 -- ---- calls
 
@@ -48,28 +50,38 @@ abbrev pub unless_repeated : (ℕ → ℕ) → CallAnswer (List ℕ) → Option 
 unless_repeated replies answer (Some position) = Repeated position (replies position)
 unless_repeated replies answer None = answer
 
--- by its admission
-abbrev pub answer_of_admission : Setting → List Entry → Asked → Result StoredProcedure CallRefusal → CallAnswer (List ℕ)
-answer_of_admission w entries asked (Err refusal) = Refused refusal
-answer_of_admission w entries asked (Ok p) =
+abbrev pub answer_of_call : Setting → List Entry → Asked → StoredProcedure → CallAnswer (List ℕ)
+answer_of_call w entries asked p =
     unless_repeated (reply_to w entries asked.request) (answer_of_run w (items_of entries) (asked_call (items_of entries) p asked))
     (first_repeated w.beginning.requests (history w (items_of entries)).certified (asked_call (items_of entries) p asked))
 
-abbrev pub answer_for : Setting → List Entry → Asked → Option StoredProcedure → CallAnswer (List ℕ)
-answer_for w entries asked p = answer_of_admission w entries asked (admission asked.args asked.request p)
+-- by what is known of its session
+abbrev pub in_session : CallAnswer (List ℕ) → Option NothingCause → CallAnswer (List ℕ)
+in_session answer (Some why) = OutOfSession
+in_session answer None = answer
+
+-- by its admission
+abbrev pub answer_of_admission : SiteSetting → Sessions → List Entry → Asked → Result StoredProcedure CallRefusal → CallAnswer (List ℕ)
+answer_of_admission s known entries asked (Err refusal) = Refused refusal
+answer_of_admission s known entries asked (Ok p) =
+    in_session (answer_of_call s.setting entries asked p) (session_cause s.origin known asked.request)
+
+abbrev pub answer_for : SiteSetting → Sessions → List Entry → Asked → Option StoredProcedure → CallAnswer (List ℕ)
+answer_for s known entries asked p = answer_of_admission s known entries asked (admission asked.args asked.request p)
 
 -- what comes of what is asked for, behind these entries
-unfoldable pub call_answer_behind : Setting → List Entry → Asked → CallAnswer (List ℕ)
-call_answer_behind w entries asked =
-    answer_for w entries asked (by_name (procedures_after w (items_of entries) (length entries)) asked.name)
+unfoldable pub call_answer_behind : SiteSetting → Sessions → List Entry → Asked → CallAnswer (List ℕ)
+call_answer_behind s known entries asked =
+    answer_for s known entries asked (by_name (procedures_after s.setting (items_of entries) (length entries)) asked.name)
 
 -- and behind an order
 abbrev pub call_answer : SiteSetting → Order → Asked → CallAnswer (List ℕ)
-call_answer s order asked = call_answer_behind s.setting (order_entries s order) asked
+call_answer s order asked = call_answer_behind s (sessions_after s order) (order_entries s order) asked
 
 -- whether an answer comes of a run, for which memory is taken
 abbrev pub takes_memory : CallAnswer (List ℕ) → Bool
 takes_memory (Refused refusal) = false
+takes_memory OutOfSession = false
 takes_memory (Repeated position reply) = false
 takes_memory (Cancelled position code) = true
 takes_memory (Read position reply) = true

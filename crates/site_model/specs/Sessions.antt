@@ -1,29 +1,34 @@
--- What each session has done last: of its calls that committed, the one of the greatest number (this product's own rules).
-use Rattle.std.specs.Prelude.{ℕ, nat_le, Bool, true, if◌then◌else◌, List, [], ◌∷◌, ◌++◌, Option, Some, None}
+-- The sessions of an order, and what each has done last: of its calls that committed, the one of the greatest number (this
+-- product's own rules).
+use Rattle.std.specs.Prelude.{ℕ, suc, ◌+◌, ◌^◌, ◌==◌, nat_le, nat_lt, Bool, false, not, is_some, ◌&&◌, ◌||◌, if◌then◌else◌, List, [], ◌∷◌, length, Option, Some, None}
 use Rattle.std.specs.List.{fold}
 use Rattle.std.specs.Option.{option_map}
 use Rattle.std.specs.Ordering.{nat_cmp}
 use Rattle.std.specs.FinMap.{FinMap, empty, get, insert}
+use Rattle.log_model.specs.declared.request.RequestId.{RequestId}
 use Rattle.log_model.specs.Log.{DoneRequest}
 use Rattle.log_entry.specs.Head.{Head, CallHead, head_of}
+use Rattle.site_model.specs.declared.cause.NothingCause.{NothingCause}
+use Rattle.site_model.specs.declared.cause.NothingCause.TheVariants.{UnknownSession, Superseded}
+use Rattle.site_model.specs.declared.origin.Origin.{Origin}
 use Rattle.site_model.specs.declared.outcome.EntryOutcome.{EntryOutcome}
-use Rattle.site_model.specs.declared.outcome.EntryOutcome.TheVariants.{Committed}
-use Rattle.site_model.specs.Standing.{SiteSetting}
-use Rattle.site_model.specs.Order.{Order, next_outcome}
+use Rattle.site_model.specs.declared.outcome.EntryOutcome.TheVariants.{Committed, Session}
+
+-- ---- what each has done last
 
 -- under each session its last request
 abbrev pub LastRequests : Type 0
 LastRequests = FinMap nat_cmp DoneRequest
 
--- whether a request has no lower number than the last of its session
-abbrev pub is_no_earlier : Option DoneRequest → DoneRequest → Bool
-is_no_earlier None done = true
-is_no_earlier (Some last) done = nat_le last.request.sequence done.request.sequence
+-- whether a session, by its last request, has done a request of a greater number
+abbrev pub is_superseded : Option DoneRequest → RequestId → Bool
+is_superseded None request = false
+is_superseded (Some last) request = nat_lt request.sequence last.request.sequence
 
 -- with one more request that was done
 abbrev pub with_done : LastRequests → DoneRequest → LastRequests
 with_done lasts done =
-    if is_no_earlier (get lasts done.request.session) done then insert lasts done.request.session done else lasts
+    if is_superseded (get lasts done.request.session) done.request then lasts else insert lasts done.request.session done
 
 abbrev pub with_done_if : LastRequests → Option DoneRequest → LastRequests
 with_done_if lasts None = lasts
@@ -39,24 +44,46 @@ done_by (Some (CallHead call told)) (Committed reply) =
     option_map (λ request. record { request = request; reply = reply; procedure = call.procedure; args = call.args }) call.request
 done_by head outcome = None
 
--- what the bytes behind an order have done
-abbrev pub next_done : SiteSetting → Order → List ℕ → Option DoneRequest
-next_done s order bytes = done_by (head_of bytes) (next_outcome s order bytes)
+-- ---- what is known of sessions behind an order: how many the order opened, and the last request of each
 
--- the first byte strings of an order, and the last requests behind them
-pub record Followed : Type 0 where
-  pub order : Order
+pub record Sessions : Type 0 where
+  pub opened : ℕ
   pub lasts : LastRequests
 
-abbrev pub followed_by : SiteSetting → Followed → List ℕ → Followed
-followed_by s so_far bytes = record {
-  order = so_far.order ++ bytes ∷ [];
-  lasts = with_done_if so_far.lasts (next_done s so_far.order bytes);
+-- with one more byte string, which comes to this
+abbrev pub opened_with : ℕ → EntryOutcome → ℕ
+opened_with opened (Session session) = suc opened
+opened_with opened outcome = opened
+
+abbrev pub sessions_with : Sessions → List ℕ → EntryOutcome → Sessions
+sessions_with known bytes outcome = record {
+  opened = opened_with known.opened outcome;
+  lasts = with_done_if known.lasts (done_by (head_of bytes) outcome);
 }
 
-unfoldable pub followed : SiteSetting → Order → Followed
-followed s order = fold (followed_by s) (record { order = []; lasts = lasts_of s.setting.beginning.requests }) order
+-- ---- an order with an origin opens sessions, and knows which there are
 
--- behind an order
-abbrev pub lasts_after : SiteSetting → Order → LastRequests
-lasts_after s order = (followed s order).lasts
+-- 0, 2 and 16 more bytes
+abbrev pub is_opening : List ℕ → Bool
+is_opening (kind ∷ mark ∷ more) = (kind == 0) && ((mark == 2) && (length more == 16))
+is_opening bytes = false
+
+-- the session that bytes open, numbered behind those before; none where its number has more than 32 bits
+abbrev pub session_opened : Option Origin → ℕ → List ℕ → Option ℕ
+session_opened None opened bytes = None
+session_opened (Some origin) opened bytes =
+    if is_opening bytes && nat_lt (origin.sessions + opened + 1) (2 ^ 32) then Some (origin.sessions + opened + 1) else None
+
+-- it has done something, in the order or before, or was told of there, or the order opened it
+abbrev pub is_known : Origin → Sessions → ℕ → Bool
+is_known origin known session =
+    is_some (get known.lasts session) || (nat_lt origin.sessions session && nat_le session (origin.sessions + known.opened))
+
+-- why a call that carries this request can't be taken for its session's sake
+abbrev pub session_cause : Option Origin → Sessions → Option RequestId → Option NothingCause
+session_cause None known request = None
+session_cause (Some origin) known None = None
+session_cause (Some origin) known (Some request) =
+    if not (is_known origin known request.session) then Some UnknownSession
+    else if is_superseded (get known.lasts request.session) request then Some Superseded
+    else None

@@ -1,5 +1,5 @@
 -- What stands at the next position of an order: an entry that is what its run gives, a call of which nothing but request
--- and snapshot count, or nothing (this product's own rules).
+-- and snapshot count, a session that is opened, or nothing (this product's own rules).
 use Rattle.std.specs.Prelude.{ℕ, ◌-◌, ◌==◌, nat_le, Bool, false, not, is_some, ◌&&◌, ◌||◌, if◌then◌else◌, List, length, Option, Some, None}
 use Rattle.std.specs.FinMap.{len}
 use Rattle.std.specs.Str.{bytes_eq}
@@ -14,15 +14,19 @@ use Rattle.program_checks.specs.ProgramCheck.{ProgramCheck, Passed, Failed}
 use Rattle.program_checks.specs.Check.{check_of}
 use Rattle.site_model.specs.declared.cause.NothingCause.{NothingCause}
 use Rattle.site_model.specs.declared.cause.NothingCause.TheVariants as cause
+use Rattle.site_model.specs.declared.origin.Origin.{Origin}
+use Rattle.site_model.specs.Sessions.{Sessions, session_cause, session_opened}
 
 -- what all sites of an order have in common
 pub record SiteSetting : Type 0 where
   pub setting : Setting
   pub takes_additions : Bool
+  pub origin : Option Origin  -- of an order that opens sessions
 
 pub data Standing : Type 0 where
   StandsAs : Entry → Standing
   IsDecided : Call → Standing  -- it is repeated or stale, whatever is told of its run
+  OpensSession : ℕ → Standing
   IsNothing : NothingCause → Standing
 
 -- ---- calls
@@ -58,12 +62,18 @@ abbrev pub run_standing : Setting → Log → Call → List ℕ → Standing
 run_standing w log call bytes =
     if is_true w log call bytes then StandsAs (CallEntry (executed w log call)) else IsNothing cause.Untrue
 
-abbrev pub call_standing : Setting → Log → Call → List ℕ → Standing
-call_standing w log call bytes =
-    if not (nat_le call.snapshot (length log)) then IsNothing cause.Snapshot
-    else if is_decided w log call then IsDecided call
+-- by what is known of its request
+abbrev pub request_standing : Setting → Log → Call → List ℕ → Option NothingCause → Standing
+request_standing w log call bytes (Some why) = IsNothing why
+request_standing w log call bytes None =
+    if is_decided w log call then IsDecided call
     else if not (takes_arguments (procedure_of w log call) call.args) then IsNothing cause.Procedure
     else run_standing w log call bytes
+
+abbrev pub call_standing : SiteSetting → Sessions → Log → Call → List ℕ → Standing
+call_standing s known log call bytes =
+    if not (nat_le call.snapshot (length log)) then IsNothing cause.Snapshot
+    else request_standing s.setting log call bytes (session_cause s.origin known call.request)
 
 -- ---- additions
 
@@ -79,11 +89,16 @@ addition_standing s p =
 
 -- ---- any bytes
 
-abbrev pub standing_of_head : SiteSetting → Log → List ℕ → Option Head → Standing
-standing_of_head s log bytes None = IsNothing cause.Unreadable
-standing_of_head s log bytes (Some (CallHead call reply)) = call_standing s.setting log call bytes
-standing_of_head s log bytes (Some (AdditionHead p)) = addition_standing s p
+abbrev pub standing_of_head : SiteSetting → Sessions → Log → List ℕ → Option Head → Standing
+standing_of_head s known log bytes None = IsNothing cause.Unreadable
+standing_of_head s known log bytes (Some (CallHead call reply)) = call_standing s known log call bytes
+standing_of_head s known log bytes (Some (AdditionHead p)) = addition_standing s p
 
--- what these bytes are behind a log
-unfoldable pub standing : SiteSetting → Log → List ℕ → Standing
-standing s log bytes = standing_of_head s log bytes (head_of bytes)
+abbrev pub unless_opened : Option ℕ → Standing → Standing
+unless_opened (Some session) standing = OpensSession session
+unless_opened None standing = standing
+
+-- what these bytes are behind a log, by what is known of sessions
+unfoldable pub standing : SiteSetting → Sessions → Log → List ℕ → Standing
+standing s known log bytes =
+    unless_opened (session_opened s.origin known.opened bytes) (standing_of_head s known log bytes (head_of bytes))

@@ -8,8 +8,8 @@ ghost use Rattle.log_model.specs.Entries.{Entry, AdditionEntry, item_of, items_o
 ghost use Rattle.log_model.specs.Entries.{certified_entry, certified_entries_of, installed_from};
 ghost use Rattle.site_model.specs.Fit.{AreFitEntries};
 ghost use Rattle.site_model.specs.Standing.{SiteSetting, StandsAs, standing};
-ghost use Rattle.site_model.specs.Order.{Order, order_entries, next_entry, with_bytes};
-ghost use Rattle.site_model.specs.Sessions.{lasts_after, lasts_of, next_done, with_done_if};
+ghost use Rattle.site_model.specs.Sessions.{Sessions, lasts_of, sessions_with};
+ghost use Rattle.site_model.specs.Order.{Order, order_entries, next_entry, next_outcome, sessions_after, with_bytes};
 
 use log_model::{entries_suffice, logs_whose_calls_fit, one_more_entry_carries_its_run};
 
@@ -17,29 +17,31 @@ use log_model::{entries_suffice, logs_whose_calls_fit, one_more_entry_carries_it
 pub fn orders_grow()
     ensures first { (s : SiteSetting) → order_entries s [] ≡ [] }
     ensures next { (s : SiteSetting) (order : Order) (bytes : List ℕ)
-        → order_entries s (order ++ bytes ∷ []) ≡ with_bytes s (order_entries s order) bytes }
+        → order_entries s (order ++ bytes ∷ [])
+        ≡ with_bytes s (sessions_after s order) (order_entries s order) bytes }
     ensures count { (s : SiteSetting) (order : Order) → length (order_entries s order) ≡ length order }
 {}
 
-/// The last requests of sessions are those that were done before an order, and change by what each byte string of the
-/// order did.
-pub fn last_requests_go_on()
-    ensures first { (s : SiteSetting) → lasts_after s [] ≡ lasts_of s.setting.beginning.requests }
-    ensures next { (s : SiteSetting) (order : Order) (bytes : List ℕ) → lasts_after s (order ++ bytes ∷ [])
-        ≡ with_done_if (lasts_after s order) (next_done s order bytes) }
+/// Before an order each session has done last what its request before says, and no session is opened. Each byte string of
+/// the order changes that by its outcome.
+pub fn sessions_go_on()
+    ensures first { (s : SiteSetting) → sessions_after s []
+        ≡ record { opened = 0; lasts = lasts_of s.setting.beginning.requests } }
+    ensures next { (s : SiteSetting) (order : Order) (bytes : List ℕ) → sessions_after s (order ++ bytes ∷ [])
+        ≡ sessions_with (sessions_after s order) bytes (next_outcome s order bytes) }
 {}
 
 /// The entry at the next position has a snapshot before it, carries its run, and fits the log. A procedure that the
 /// entry adds is safe.
 pub fn what_stands_is_of_the_log()
-    ensures placed { (s : SiteSetting) (entries : List Entry) (bytes : List ℕ)
-        → IsPlaced (length entries) (item_of (next_entry s entries bytes)) }
-    ensures carried { (s : SiteSetting) (entries : List Entry) (bytes : List ℕ)
-        → IsCarried s.setting (items_of entries) (next_entry s entries bytes) }
-    ensures fits { (s : SiteSetting) (entries : List Entry) (bytes : List ℕ) → All (λ b. b < 256) bytes
-        → ((p : StoredProcedure) → standing s (items_of entries) bytes ≡ StandsAs (AdditionEntry p)
+    ensures placed { (s : SiteSetting) (known : Sessions) (entries : List Entry) (bytes : List ℕ)
+        → IsPlaced (length entries) (item_of (next_entry s known entries bytes)) }
+    ensures carried { (s : SiteSetting) (known : Sessions) (entries : List Entry) (bytes : List ℕ)
+        → IsCarried s.setting (items_of entries) (next_entry s known entries bytes) }
+    ensures fits { (s : SiteSetting) (known : Sessions) (entries : List Entry) (bytes : List ℕ) → All (λ b. b < 256) bytes
+        → ((p : StoredProcedure) → standing s known (items_of entries) bytes ≡ StandsAs (AdditionEntry p)
         → IsSafe s.setting.tables p)
-        → FitsLog s.setting (items_of entries) (item_of (next_entry s entries bytes)) }
+        → FitsLog s.setting (items_of entries) (item_of (next_entry s known entries bytes)) }
 {}
 
 /// One more entry behind the entries of an order's log is of that log too. The entry's verdict, and the rows after each

@@ -3,10 +3,12 @@
 
 pub use answer::{AdditionAnswer, AdditionRefusal, CallAnswer};
 pub use cause::NothingCause;
-pub use laws::{fit_entries_go_on, last_requests_go_on, orders_grow, what_stands_is_of_the_log};
+pub use laws::{fit_entries_go_on, sessions_go_on, orders_grow, what_stands_is_of_the_log};
+pub use origin::Origin;
 pub use outcome::EntryOutcome;
 
 mod answer;
 mod cause;
 mod laws;
+mod origin;
 mod outcome;

@@ -19,6 +19,8 @@ pub enum EntryOutcome {
     Added(u16),
     /// An earlier procedure has what the added one has.
     Taken(Identifier),
+    /// The session of this number is opened.
+    Session(u32),
     /// The byte string is nothing.
     Nothing(NothingCause),
 }
