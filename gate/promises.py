@@ -13,13 +13,8 @@ CLAUSE = re.compile(r" *(?:requires|ensures)\b")
 
 def head_of(crate):
     """Returns what a crate's root says of it: its first paragraph of documentation."""
-    said = []
-    for root in ("lib", "main"):
-        for line in workspace.text(f"crates/{crate}/src/{root}.rt").splitlines():
-            if not line.startswith("//!") or line == "//!":
-                break
-            said.append(line.removeprefix("//!").strip())
-    return " ".join(said)
+    texts = (workspace.text(f"crates/{crate}/src/{root}.rt") for root in ("lib", "main"))
+    return " ".join(it.strip() for text in texts for it in re.findall("//!(.+)", re.match("(//!.+\n)*", text)[0]))
 
 
 def shown(crate):
