@@ -76,6 +76,8 @@ class Drawn:
         requests = [(session, self.random.randint(0, 30)) for session in sessions]
         self.before = {pair for pair in requests if pair[1] > 0}
         lines = [f"row 1 {key} {words(self.random.randrange(100))}\n" for key in rows]
+        if self.random.random() < 0.5:
+            lines.append(f"origin {self.random.choice([0, 5])} {self.random.choice([0, 1, 4]) + max(sessions, default=0)}\n")
         lines += [f"request {s} {q} {self.random.randrange(100)} 1 -\n" for s, q in requests]
         return "".join(lines)
 
@@ -162,7 +164,8 @@ class Drawn:
         """Returns a string of the order."""
         chosen = self.random.random()
         if chosen < 0.1 or not self.submitted:
-            return self.random.choice([b"", b"\0", b"\0\2" + bytes(16), b"\1", b"\2", b"\3", self.random.randbytes(60)])
+            others = [b"\0", b"\0\2" + bytes(15), b"\0\2" + bytes(17), b"\1", b"\2", b"\3", self.random.randbytes(60)]
+            return self.random.choice([b"", *others, *[b"\0\2" + self.random.randbytes(16)] * 7])
         if chosen < 0.2 and self.order:
             return self.random.choice(self.order)
         recent = self.submitted[-6:] if chosen < 0.85 else self.submitted
@@ -178,8 +181,8 @@ class Drawn:
             at = self.random.choice([1, 5, *range(6, name_end), name_end, name_end + 4])
             return string[:at] + bytes([0xFF]) + string[at + 1 :]
         args_len = int.from_bytes(string[15:17], "little")
-        # sequence, call, procedure, length, arguments, snapshot, reply
-        head = [5, 9, 13, 15, 17, 17 + args_len, 21 + args_len]
+        # session, sequence, call, procedure, length, arguments, snapshot, reply
+        head = [1, 5, 9, 13, 15, 17, 17 + args_len, 21 + args_len]
         at = self.random.choice([self.random.randrange(len(string)), *head])
         at = min(at, len(string) - 1)
         if self.random.random() < 0.3:

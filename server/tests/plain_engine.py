@@ -14,7 +14,7 @@ sys.path.insert(0, f"{os.path.dirname(os.path.realpath(__file__))}/../../sdk/c/t
 from decoding import decode_fault
 from machine import Machine
 
-SETTINGS = {"window": 2, "table": 3, "proc": 5, "additions": 1, "row": 4, "request": 6}  # words of each line
+SETTINGS = {"window": 2, "table": 3, "proc": 5, "additions": 1, "row": 4, "request": 6, "origin": 3}  # words of each line
 LONGEST_LINE, LAST, LAST_KEY = 1_048_576, 4_294_967_295, 18_446_744_073_709_551_615
 NUMBER, HEX, NAME = (re.compile(it) for it in ("0|[1-9][0-9]*", "-|([0-9A-Fa-f]{2})+", "[0-9A-Za-z_]{1,32}"))
 
@@ -56,6 +56,7 @@ class Site:
         self.window, self.additions, self.widths, self.procedures = None, False, {}, {}
         self.rows, self.known = [{}], []  # by position: the rows; and the procedures
         self.writes, self.done = [], {}  # by position: what was written; by pair: who committed, and the reply
+        self.origin, self.sessions = None, {}  # of an order that opens sessions: N; by session: its greatest number done
         for at, raw in enumerate(settings.split(b"\n"), 1):
             try:
                 self.set(words_of(raw, SETTINGS))
@@ -77,7 +78,18 @@ class Site:
         elif words[:1] == ["row"]:
             self.rows[0][number(words[1], 64), number(words[2], LAST_KEY)] = hex_bytes(words[3])
         elif words[:1] == ["request"]:
-            self.done[number(words[1], LAST), number(words[2], LAST)] = (0, number(words[3], LAST_KEY))
+            session, sequence = number(words[1], LAST), number(words[2], LAST)
+            if session <= max(self.sessions, default=0):
+                raise Fault("L11 Q1")
+            if self.origin is not None and session > self.origin:
+                raise Fault("L11 Q2")
+            self.done[session, sequence] = (0, number(words[3], LAST_KEY))
+            self.sessions[session] = sequence
+        elif words[:1] == ["origin"]:
+            if self.origin is not None or self.done:
+                raise Fault("L5")
+            number(words[1], LAST_KEY)
+            self.origin = self.opened = number(words[2], LAST)
         elif words:
             self.additions = True
 
@@ -103,6 +115,10 @@ class Site:
         """Returns what a byte string is at the next position, as it is printed, with its writes, pair and reply."""
         if raw[:1] == b"\2":
             return self.addition(raw), {}, (0, 0), 0
+        if self.origin is not None and raw[:2] == b"\0\2" and len(raw) == 18 and self.opened < LAST:
+            self.opened += 1
+            self.sessions[self.opened] = 0
+            return f"session {self.opened}", {}, (0, 0), 0
         head = self.head(raw)
         if head is None:
             return "nothing E1", {}, (0, 0), 0
@@ -120,10 +136,20 @@ class Site:
             return None
         return call, (session, sequence), procedure, raw[17 : 17 + length], unpack_from("<I", raw, 17 + length)[0]
 
+    def session_cause(self, pair):
+        """Returns why an order that opens sessions takes no call with this pair now, or None."""
+        if self.origin is None or pair == (0, 0):
+            return None
+        if pair[0] not in self.sessions:
+            return "E7"
+        return "E6" if self.sessions[pair[0]] > pair[1] else None
+
     def call_item(self, raw, call, pair, of, args, snapshot):
         d = len(self.writes) + 1
         if snapshot >= d:
             return "nothing E3", {}, 0
+        if cause := self.session_cause(pair):
+            return f"nothing {cause}", {}, 0
         if earlier := self.done.get(pair):
             return f"repeat {earlier[0]} reply {earlier[1]}", {}, 0
         if d - 1 - snapshot > self.window:
@@ -175,6 +201,7 @@ class Site:
         self.writes.append(writes)
         if said.startswith("commit") and pair != (0, 0):
             self.done[pair] = (len(self.writes), reply)
+            self.sessions[pair[0]] = pair[1]
         self.rows.append(rows)
         self.known.append(dict(self.procedures))
         return f"entry {len(self.writes)} {said}"
@@ -188,6 +215,8 @@ class Site:
             return "refused P3"
         if (pair[0] == 0) != (pair[1] == 0):
             return "refused P13"
+        if self.session_cause(pair):
+            return "refused P15"
         if earlier := self.done.get(pair):
             return f"repeat {earlier[0]} reply {earlier[1]}"
         reply, code, looks, writes = self.run(at, procedure, args)

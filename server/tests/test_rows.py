@@ -20,6 +20,9 @@ class Rows(ServerTest):
         self.assertEqual((rest, said, process.returncode), ("", "", 0))
         return found
 
+    def assert_answers(self, lines, settings):
+        self.assertEqual(self.answers(*(line for line, _ in lines), settings=settings), [answer for _, answer in lines])
+
     def test_a_call_with_a_pair(self):
         string = call(7, 1, 5, 10, 0, 10)
         self.assertEqual(len(string), 2 * 84)
@@ -73,3 +76,62 @@ class Rows(ServerTest):
         found = self.answers(f"entry {string}", asked, f"call claim {words(5)} 7 2", settings=settings)
         expected = ["entry 1 commit reply 0 session 7 seq 1", "repeat 1 reply 0", "cancelled 1 code 1"]
         self.assertEqual(found, expected)
+
+    def test_sessions_that_an_order_opens(self):
+        settings = f"window 4\ntable 1 8\nadditions\norigin 0 0\nproc add 1 16 {ADD}\n"
+        opens, asked = "0002" + "07" * 16, f"call add {words(5, 10)}"
+        first, kept, third = call(1, 1, 5, 10, 1, 10), call(1, 2, 5, 10, 2, 20), call(1, 3, 5, 10, 2, 20)
+        lines = [
+            (f"{asked} 1 1", "refused P15"),
+            (f"entry {opens}", "entry 1 session 1"),
+            (f"{asked} 1 1", f"submit {first}"),
+            (f"entry {first}", "entry 2 commit reply 10 session 1 seq 1"),
+            (f"{asked} 2 1", "refused P15"),
+            (f"{asked} 1 2", f"submit {kept}"),
+            (f"{asked} 1 3", f"submit {third}"),
+            (f"entry {third}", "entry 3 commit reply 20 session 1 seq 3"),
+            (f"entry {kept}", "entry 4 nothing E6 session 1 seq 2"),
+            (f"entry {call(2, 1, 5, 10, 4, 30)}", "entry 5 nothing E7 session 2 seq 1"),
+        ]
+        self.assert_answers(lines, settings)
+
+    def test_an_order_that_goes_on(self):
+        request = f"request 1 3 20 1 {words(5, 10)}\n"
+        settings = f"window 4\ntable 1 8\nadditions\norigin 3 1\nproc add 1 16 {ADD}\nrow 1 5 {words(20)}\n{request}"
+        opens, asked = "0002" + "07" * 16, f"call add {words(5, 1)}"
+        string = call(1, 4, 5, 1, 0, 21)
+        lines = [
+            (f"{asked} 1 3", "repeat 0 reply 20"),
+            (f"{asked} 1 4", f"submit {string}"),
+            (f"entry {string}", "entry 1 commit reply 21 session 1 seq 4"),
+            (f"{asked} 1 2", "refused P15"),
+            (f"{asked} 1 3", "refused P15"),
+            (f"{asked} 2 1", "refused P15"),
+            (f"entry {opens}", "entry 2 session 2"),
+        ]
+        self.assert_answers(lines, settings)
+        without = settings.replace(request, "request 2 0 0 0 -\n").replace("origin 3 1", "origin 4 2")
+        submitted = call(2, 1, 5, 1, 0, 21)
+        self.assert_answers([(f"{asked} 1 4", "refused P15"), (f"{asked} 2 1", f"submit {submitted}")], without)
+
+    def test_settings_of_an_order_that_goes_on(self):
+        faults = {
+            "origin 0 0\norigin 0 0\n": "line 3: L5",
+            "request 1 0 0 0 -\norigin 0 1\n": "line 3: L5",
+            "origin 0 1\nrequest 2 0 0 0 -\n": "line 3: L11 Q2",
+            "origin 0 2\nrequest 2 0 0 0 -\nrequest 1 0 0 0 -\n": "line 4: L11 Q1",
+            "origin 0\n": "line 2: L3",
+            "origin 18446744073709551616 0\n": "line 2: L4",
+            "origin 0 4294967296\n": "line 2: L4",
+        }
+        for lines, fault in faults.items():
+            process = fixtures.engine("window 4\n" + lines, self.folder)
+            out, said = process.communicate()
+            self.assertEqual((out, said, process.returncode), ("", f"{fault}\n", 1))
+
+    def test_session_numbers_end(self):
+        settings = f"window 4\ntable 1 8\norigin 0 4294967294\nproc add 1 16 {ADD}\n"
+        opens = "entry 0002" + "07" * 16
+        self.assertEqual(self.answers(opens, opens, settings=settings), ["entry 1 session 4294967295", "entry 2 nothing E1"])
+        without = settings.replace("origin 0 4294967294\n", "")
+        self.assertEqual(self.answers(opens, settings=without), ["entry 1 nothing E1"])

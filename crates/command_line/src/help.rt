@@ -116,8 +116,11 @@ Exit status: 0 done, 1 a line at fault, 2 a command line that can't be read,
 /// The settings of a site, the lines that are given to it, and what it answers, as docs/FORMATS.md explains them.
 pub const SITE_HELP: &str = "\
 Settings, which all sites of an order have in common, as dsmdb replay --help
-explains them: window, table, proc, row, request; and once, without fields,
+explains them: window, table, proc, row, request; and once each
   additions                procedures may be added by the order
+  origin B N               the order opens sessions, behind B byte strings and
+                           N sessions of orders before it; 0 0 for a new
+                           database. It stands before all request lines
 
 The lines of the input. Each is answered, and the answer has left, before the
 next is waited for; empty lines, and those that begin with #, are not answered.
@@ -129,11 +132,13 @@ next is waited for; empty lines, and those that begin with #, are not answered.
     entry D repeat E reply V        entry E has done its request, and replied V
     entry D added N                 from here on there is procedure N
     entry D taken C1                a procedure has its name, or (C2) number
+    entry D session S               it opens session S
     entry D nothing E5              it is nothing: unreadable (E1), a procedure
                                     that can't be added (E2), a call of rows
                                     that aren't there yet (E3) or of no
-                                    procedure (E4), or one whose own run
-                                    doesn't give these bytes (E5)
+                                    procedure (E4), one whose own run doesn't
+                                    give these bytes (E5), or of a session that
+                                    has gone on (E6) or isn't known (E7)
     Behind that of a call stands  session S seq Q, where it has a request.
     fault O1                        the order is full; nothing was taken in
   call NAME HEX SESSION SEQ
@@ -144,8 +149,9 @@ next is waited for; empty lines, and those that begin with #, are not answered.
     cancelled S code V              it cancelled
     repeat E reply V                entry E has done its request, and replied V
     refused P2                      no such procedure; or arguments of another
-                                    length (P3), no memory (P9), or one alone
-                                    of SESSION and SEQ is 0 (P13)
+                                    length (P3), no memory (P9), one alone of
+                                    SESSION and SEQ is 0 (P13), or the session
+                                    has gone on or isn't known (P15)
   add NAME NUMBER ARGSLEN HEX
                            a procedure is checked, to be added. Nothing changes
     submit HEX                      these bytes are to be ordered

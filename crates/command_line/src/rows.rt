@@ -210,7 +210,7 @@ pub const OF_PROCEDURES: [Explanation; 33] = [
 ];
 
 /// The refusals of what is run, each once.
-pub const OF_RUNS: [Explanation; 46] = [
+pub const OF_RUNS: [Explanation; 50] = [
     Explanation {
         number: "D1",
         cause: "there is no table of this number",
@@ -234,6 +234,12 @@ pub const OF_RUNS: [Explanation; 46] = [
         number: "Q1",
         cause: "the session isn't behind that of the request before",
         cure: "sort the lines by session, and leave the last request of each",
+        in_c: "",
+    },
+    Explanation {
+        number: "Q2",
+        cause: "at a site, the session has a greater number than the sessions of the `origin` line",
+        cure: "give `origin` the greatest session that was ever opened",
         in_c: "",
     },
     Explanation {
@@ -327,6 +333,13 @@ pub const OF_RUNS: [Explanation; 46] = [
         in_c: "",
     },
     Explanation {
+        number: "P15",
+        cause: "at a site whose settings have an `origin`, the call's session isn't known, or has done a request of \
+            a greater number",
+        cure: "a call that was asked for the first time wasn't done: open a new session, and count its requests up",
+        in_c: "",
+    },
+    Explanation {
         number: "P16",
         cause: "at a site, a scan of a table that isn't in the settings",
         cure: "scan a table of the settings",
@@ -367,11 +380,24 @@ pub const OF_RUNS: [Explanation; 46] = [
         in_c: "",
     },
     Explanation {
+        number: "E6",
+        cause: "the settings have an `origin`, and the call's session has done a request of a greater number",
+        cure: "nothing; who asked has an answer to a later request",
+        in_c: "",
+    },
+    Explanation {
+        number: "E7",
+        cause: "the settings have an `origin`, and the call's session isn't known: no `request` line has it, and the \
+            order didn't open it",
+        cure: "open a session by the order, and call in it",
+        in_c: "",
+    },
+    Explanation {
         number: "O1",
         cause: "the log or the order is full: a node's log has as many entries as it was started for (1,048,576 at \
             most), or a site's order has 4,294,967,295 byte strings, which the site prints as `fault O1`",
-        cure: "begin a new log, with a larger limit where there is one, or a new order, with the rows put in by \
-            calls",
+        cure: "begin a new log, with a larger limit where there is one, or a new order, whose settings have the \
+            rows in `row` lines",
         in_c: "",
     },
     Explanation {
@@ -428,10 +454,10 @@ pub const OF_RUNS: [Explanation; 46] = [
     },
     Explanation {
         number: "L5",
-        cause: "the line doesn't stand where it may: a second `window` or `replicas`, a `table` behind a `proc`, \
-            `row` or `request`, a setting behind the first line that acts (so a `proc` behind an `add`), a line \
-            that acts before `window` and `replicas` are both set; under `run` also a line that acts but isn't \
-            `begin`, and, as line 0, a script that ends without `window` or `replicas`",
+        cause: "the line doesn't stand where it may: an `origin` in a script; a second `window` or `replicas`, a \
+            `table` behind a `proc`, `row` or `request`, a setting behind the first line that acts (so a `proc` \
+            behind an `add`), a line that acts before `window` and `replicas` are both set; under `run` also a \
+            line that acts but isn't `begin`, and, as line 0, a script that ends without `window` or `replicas`",
         cure: "settings first: window and replicas once each, tables, then procedures, rows and requests; under \
             `run` then `begin` lines alone",
         in_c: "",
@@ -471,7 +497,7 @@ pub const OF_RUNS: [Explanation; 46] = [
     },
     Explanation {
         number: "L11",
-        cause: "the request of a `request` line can't be put: Q1",
+        cause: "the request of a `request` line can't be put: Q1 or Q2",
         cure: "see Q",
         in_c: "",
     },

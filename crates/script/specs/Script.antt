@@ -7,7 +7,7 @@ use Rattle.script.specs.declared.fault.LineFault.TheVariants as fault
 use Rattle.script.specs.declared.statements.Statement.{Statement}
 use Rattle.script.specs.declared.statements.Statement.TheVariants as statement
 use Rattle.script.specs.declared.statements.Setting.{Setting}
-use Rattle.script.specs.declared.statements.Setting.TheVariants.{Window, Replicas, Table, Procedure, Row, Request}
+use Rattle.script.specs.declared.statements.Setting.TheVariants.{Window, Replicas, Table, Procedure, Row, Request, Origin}
 use Rattle.script.specs.declared.statements.Action.{Action}
 use Rattle.script.specs.declared.statements.Action.TheVariants.{Begin, BeginNumbered, Add, Turn, Exec, Order, Deliver, Rows, Log, Entry, Rebuild}
 use Rattle.script.specs.declared.word.Word.{Word}
@@ -33,7 +33,8 @@ ScriptAction = Action (List ℕ)
 abbrev pub setting_word_of : List ℕ → Option SettingWord
 setting_word_of text = word_spelled (
     (codes "window", setting.Window) ∷ (codes "replicas", setting.Replicas) ∷ (codes "table", setting.Table)
-    ∷ (codes "proc", setting.Proc) ∷ (codes "row", setting.Row) ∷ (codes "request", setting.Request) ∷ []) text
+    ∷ (codes "proc", setting.Proc) ∷ (codes "row", setting.Row) ∷ (codes "request", setting.Request)
+    ∷ (codes "origin", setting.Origin) ∷ []) text
 
 -- and of lines that act: that take steps, or print what there is
 abbrev pub action_word_of : List ℕ → Option ActionWord
@@ -53,6 +54,7 @@ setting_said setting.Table (table ∷ width ∷ []) = two Table (u8_of table) (u
 setting_said setting.Proc (name ∷ number ∷ args_len ∷ program ∷ []) = made_of Procedure (procedure_said name number args_len program)
 setting_said setting.Row (table ∷ key ∷ row ∷ []) = three Row (u8_of table) (u64_of key) (bytes_of_hex row)
 setting_said setting.Request (session ∷ sequence ∷ reply ∷ procedure ∷ args ∷ []) = made_of Request (request_said session sequence reply procedure args)
+setting_said setting.Origin (strings ∷ sessions ∷ []) = two Origin (u64_of strings) (u32_of sessions)
 setting_said _ _ = Err fault.FieldCount
 
 -- a call that carries a request
@@ -92,6 +94,7 @@ IsSettingWithinLimits (Table table width) = Unit {0}
 IsSettingWithinLimits (Procedure p) = p.args_len ≤ MAX_ARGUMENTS
 IsSettingWithinLimits (Row table key row) = Unit {0}
 IsSettingWithinLimits (Request r) = 1 ≤ r.session
+IsSettingWithinLimits (Origin strings sessions) = Unit {0}
 
 -- of an action
 abbrev pub IsActionWithinLimits : ScriptAction → Type 0

@@ -113,7 +113,7 @@ abbrev pub once : Option ℕ → ℕ → Result (Option ℕ) FaultCause
 once None n = Ok (Some n)
 once (Some _) n = Err cause.Place
 
--- the settings after one more line
+-- the settings after one more line; an origin is of sites alone
 unfoldable pub setting_after : ScriptSettings → ScriptSetting → Result ScriptSettings FaultCause
 setting_after s (setting.Window window) = then_with (once s.window window) (λ window. Ok (record s { window = window }))
 setting_after s (setting.Replicas replicas) = then_with (once s.replicas replicas) (λ replicas. Ok (record s { replicas = replicas }))
@@ -124,6 +124,7 @@ setting_after s (setting.Procedure p) =
 setting_after s (setting.Row table key row) =
     then_with (with_row s.catalogue (table, key) row) (λ catalogue. Ok (record s { catalogue = catalogue }))
 setting_after s (setting.Request r) = then_with (with_request s.catalogue r) (λ catalogue. Ok (record s { catalogue = catalogue }))
+setting_after s (setting.Origin strings sessions) = Err cause.Place
 
 -- what is known of all settings
 pub record AreWithinLimits (window replicas : Option ℕ) : Type 0 where

@@ -9,7 +9,7 @@ use Rattle.script.specs.declared.fault.LineFault.{LineFault}
 use Rattle.script.specs.declared.fault.LineFault.TheVariants as line
 use Rattle.script.specs.Fault.{number_of_line_fault}
 use Rattle.script.specs.declared.cause.FaultCause.{FaultCause}
-use Rattle.script.specs.declared.cause.FaultCause.TheVariants.{Line, Place, Table, Program, Refused, Procedure, NoMemory, Row, Request}
+use Rattle.script.specs.declared.cause.FaultCause.TheVariants.{Line, Place, Table, Program, Refused, Procedure, NoMemory, Row, Request, Session}
 use Rattle.script.specs.declared.cause.ScriptFault.{ScriptFault}
 
 abbrev pub cause_of_line_fault : LineFault → FaultCause
@@ -27,6 +27,7 @@ cause_text (Procedure fault) = codes "L8 " ++ catalogue.fault_text fault
 cause_text NoMemory = codes "L9"
 cause_text (Row fault) = codes "L10 " ++ catalogue.row_fault_text fault
 cause_text (Request fault) = codes "L11 " ++ catalogue.request_fault_text fault
+cause_text Session = codes "L11 Q2"
 
 -- as `line 4: L7 V5 slot 6`
 abbrev pub script_fault_text : ScriptFault → List ℕ

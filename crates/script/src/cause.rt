@@ -33,6 +33,8 @@ pub enum FaultCause {
     Row(RowFault),
     /// The request that was done can't be put.
     Request(RequestFault),
+    /// The session of the request that was done has a greater number than the sessions of the origin.
+    Session,
 }
 
 impl fmt::Display for FaultCause {
@@ -55,6 +57,7 @@ impl fmt::Display for FaultCause {
             FaultCause::NoMemory => write!(f, "L9"),
             FaultCause::Row(fault) => write!(f, "L10 {fault}"),
             FaultCause::Request(fault) => write!(f, "L11 {fault}"),
+            FaultCause::Session => write!(f, "L11 Q2"),
         }
     }
 }

@@ -70,6 +70,10 @@ impl<A: Allocator + Copy> LineMeaning<A, SettingWord> for Setting<Bytes<A>> {
                 let request = read_request(alloc, session, sequence, reply, procedure, args)?;
                 Ok(Setting::Request(request))
             }
+            (SettingWord::Origin, [strings, sessions]) => Ok(Setting::Origin {
+                strings: read_u64(strings)?,
+                sessions: read_u32(sessions)?,
+            }),
             _ => Err(LineFault::FieldCount),
         }
     }

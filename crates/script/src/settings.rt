@@ -59,7 +59,7 @@ impl<A: Allocator + Copy> Settings<A> {
         })
     }
 
-    /// Sets what a line says.
+    /// Sets what a line says. An origin is of sites alone.
     #[tactic(auto, unfolding(crate::specs::Settings::setting_after))]
     pub fn set(&mut self, setting: Setting<Bytes<A>>) -> Result<(), FaultCause>
         // The limits are those of a line's setting.
@@ -86,6 +86,7 @@ impl<A: Allocator + Copy> Settings<A> {
                 add_row(&mut self.catalogue, table, key, row.as_slice())
             }
             Setting::Request(request) => add_request(&mut self.catalogue, &request),
+            Setting::Origin { .. } => Err(FaultCause::Place),
         }
     }
 
@@ -105,6 +106,13 @@ impl<A: Allocator + Copy> Settings<A> {
         ensures to { IfSome result (λ replicas. replicas ≤ MAX_REPLICAS) }
     {
         self.replicas
+    }
+
+    /// The tables, and all that the database begins with.
+    pub fn catalogue(&self) -> &Catalogue<A>
+        ensures { result.now ≡ self.now.catalogue }
+    {
+        &self.catalogue
     }
 
     /// The tables, and all that the database begins with.

@@ -24,6 +24,8 @@ pub enum Setting<B> {
     Row { table: u8, key: u64, row: B },
     /// A request that was done before.
     Request(RequestFields<B>),
+    /// The number of byte strings that came before the order of a site, and the greatest number of their sessions.
+    Origin { strings: u64, sessions: u32 },
 }
 
 /// An action of a line: a step of a world, or a print of it.

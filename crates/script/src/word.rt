@@ -35,6 +35,7 @@ pub enum SettingWord {
     Proc,
     Row,
     Request,
+    Origin,
 }
 
 /// The word of a line that acts.
@@ -68,6 +69,8 @@ fn setting_word(text: &str) -> Option<SettingWord>
         SettingWord::Row
     } else if text == "request" {
         SettingWord::Request
+    } else if text == "origin" {
+        SettingWord::Origin
     } else {
         return None;
     })

@@ -1,5 +1,5 @@
 -- What a call that is asked for comes to, test by test.
-use Rattle.std.proofs.Common.{◌≡◌, ℕ, ◌<◌, ◌^◌, ◌==◌, Bool, true, false, cond, IsTrue, OnErr, List, length, Option, Some, None, Result, Ok, Err, option_map, refl, sym, ap, subst, ◌∙◌}
+use Rattle.std.proofs.Common.{◌≡◌, ℕ, ◌<◌, ◌^◌, ◌==◌, Bool, true, false, cond, IsTrue, OnErr, List, length, Option, Some, None, is_some, Result, Ok, Err, option_map, refl, sym, ap, subst, ◌∙◌}
 use Rattle.std.proofs.lemmas.List.{length-map}
 use Rattle.std.specs.FinMap.{len}
 use Rattle.bpf_semantics.specs.Run.{Run}
@@ -13,10 +13,12 @@ use Rattle.log_entry.specs.Bytes.{entry_bytes}
 use Rattle.log_model.specs.declared.refusal.CallRefusal.{CallRefusal}
 use Rattle.log_model.specs.declared.refusal.CallRefusal.TheVariants.{NoProcedure}
 use Rattle.log_model.specs.Admission.{admission}
-use Rattle.site_model.specs.declared.answer.CallAnswer.TheVariants.{Refused, Repeated, Cancelled, Read, Submitted}
+use Rattle.site_model.specs.declared.answer.CallAnswer.TheVariants.{Refused, OutOfSession, Repeated, Cancelled, Read, Submitted}
 use Rattle.site_model.specs.Order.{reply_to}
-use Rattle.site_model.specs.Answer.{Asked, answer_for, answer_of_admission, answer_of_run, asked_call, call_answer_behind, takes_memory, unless_cancelled, unless_repeated}
-use Rattle.site_model.specs.Standing.{executed}
+use Rattle.site_model.specs.Answer.{Asked, answer_for, answer_of_admission, answer_of_call, answer_of_run, in_session, asked_call, call_answer_behind, takes_memory, unless_cancelled, unless_repeated}
+use Rattle.site_model.specs.declared.cause.NothingCause.{NothingCause}
+use Rattle.site_model.specs.Sessions.{Sessions, session_cause}
+use Rattle.site_model.specs.Standing.{SiteSetting, executed}
 use Rattle.world_calls.specs.declared.completion.Completion.{Completion}
 use Rattle.world_calls.specs.declared.completion.Completion.TheVariants as completion
 use Rattle.world_calls.specs.OpenCall.{IsCompletion}
@@ -24,26 +26,43 @@ use Rattle.site.specs.Answered.{HasShortReply}
 use Rattle.site.specs.Replica.{SiteReplica, StandsForLog, setting_of}
 use Rattle.site.proofs.SiteLemmas.{ProceduresSuffice, held_procedures, listed_stored}
 
-module _ (w : Setting) (entries : List Entry) (asked : Asked) where
-  by_found : (o : Option StoredProcedure) → by_name (procedures_after w (items_of entries) (length entries)) asked.name ≡ o → call_answer_behind w entries asked ≡ answer_for w entries asked o
-  unfolding call_answer_behind
-  by_found o e = ap (answer_for w entries asked) e
+module _ (s : SiteSetting) (known : Sessions) (entries : List Entry) (asked : Asked) where
+  abbrev w : Setting
+  w = s.setting
 
-  pub no_procedure : by_name (procedures_after w (items_of entries) (length entries)) asked.name ≡ None → Refused NoProcedure ≡ call_answer_behind w entries asked
+  by_found : (o : Option StoredProcedure) → by_name (procedures_after w (items_of entries) (length entries)) asked.name ≡ o → call_answer_behind s known entries asked ≡ answer_for s known entries asked o
+  unfolding call_answer_behind
+  by_found o e = ap (answer_for s known entries asked) e
+
+  pub no_procedure : by_name (procedures_after w (items_of entries) (length entries)) asked.name ≡ None → Refused NoProcedure ≡ call_answer_behind s known entries asked
   no_procedure none = sym (by_found None none)
 
   module _ (p : StoredProcedure) (some : by_name (procedures_after w (items_of entries) (length entries)) asked.name ≡ Some p) where
-    by_admission : (answer : Result StoredProcedure CallRefusal) → admission asked.args asked.request (Some p) ≡ answer → call_answer_behind w entries asked ≡ answer_of_admission w entries asked answer
-    by_admission answer e = by_found (Some p) some ∙ ap (answer_of_admission w entries asked) e
+    by_admission : (answer : Result StoredProcedure CallRefusal) → admission asked.args asked.request (Some p) ≡ answer → call_answer_behind s known entries asked ≡ answer_of_admission s known entries asked answer
+    by_admission answer e = by_found (Some p) some ∙ ap (answer_of_admission s known entries asked) e
 
-    pub refused_call : (refusal : CallRefusal) → admission asked.args asked.request (Some p) ≡ Err refusal → Refused refusal ≡ call_answer_behind w entries asked
+    pub refused_call : (refusal : CallRefusal) → admission asked.args asked.request (Some p) ≡ Err refusal → Refused refusal ≡ call_answer_behind s known entries asked
     refused_call refusal e = sym (by_admission (Err refusal) e)
 
-    pub repeated_call : (position : ℕ) → admission asked.args asked.request (Some p) ≡ Ok p → first_repeated w.beginning.requests (history w (items_of entries)).certified (asked_call (items_of entries) p asked) ≡ Some position → Repeated position (reply_to w entries asked.request position) ≡ call_answer_behind w entries asked
-    repeated_call position e first = sym (by_admission (Ok p) e ∙ ap (unless_repeated (reply_to w entries asked.request) (answer_of_run w (items_of entries) (asked_call (items_of entries) p asked))) first)
+    by_session : (o : Option NothingCause) → admission asked.args asked.request (Some p) ≡ Ok p → session_cause s.origin known asked.request ≡ o → call_answer_behind s known entries asked ≡ in_session (answer_of_call w entries asked p) o
+    by_session o e inside = by_admission (Ok p) e ∙ ap (in_session (answer_of_call w entries asked p)) inside
 
-    pub run_call : admission asked.args asked.request (Some p) ≡ Ok p → first_repeated w.beginning.requests (history w (items_of entries)).certified (asked_call (items_of entries) p asked) ≡ None → answer_of_run w (items_of entries) (asked_call (items_of entries) p asked) ≡ call_answer_behind w entries asked
-    run_call e first = sym (by_admission (Ok p) e ∙ ap (unless_repeated (reply_to w entries asked.request) (answer_of_run w (items_of entries) (asked_call (items_of entries) p asked))) first)
+    pub out_of_session : (why : NothingCause) → admission asked.args asked.request (Some p) ≡ Ok p → session_cause s.origin known asked.request ≡ Some why → OutOfSession ≡ call_answer_behind s known entries asked
+    out_of_session why e out = sym (by_session (Some why) e out)
+
+    pub repeated_call : (position : ℕ) → admission asked.args asked.request (Some p) ≡ Ok p → session_cause s.origin known asked.request ≡ None → first_repeated w.beginning.requests (history w (items_of entries)).certified (asked_call (items_of entries) p asked) ≡ Some position → Repeated position (reply_to w entries asked.request position) ≡ call_answer_behind s known entries asked
+    repeated_call position e inside first = sym (by_session None e inside ∙ ap (unless_repeated (reply_to w entries asked.request) (answer_of_run w (items_of entries) (asked_call (items_of entries) p asked))) first)
+
+    pub run_call : admission asked.args asked.request (Some p) ≡ Ok p → session_cause s.origin known asked.request ≡ None → first_repeated w.beginning.requests (history w (items_of entries)).certified (asked_call (items_of entries) p asked) ≡ None → answer_of_run w (items_of entries) (asked_call (items_of entries) p asked) ≡ call_answer_behind s known entries asked
+    run_call e inside first = sym (by_session None e inside ∙ ap (unless_repeated (reply_to w entries asked.request) (answer_of_run w (items_of entries) (asked_call (items_of entries) p asked))) first)
+
+pub is_none_is_none : {X : Type 0} (o : Option X) → is_some o ≡ false → o ≡ None
+is_none_is_none None e = refl
+is_none_is_none (Some x) e = absurd cc
+
+pub is_some_is_some : {X : Type 0} (o : Option X) → is_some o ≡ true → (x : X) × (o ≡ Some x)
+is_some_is_some None e = absurd cc
+is_some_is_some (Some x) e = (x, refl)
 
 -- ---- the procedure of a name
 

@@ -112,10 +112,11 @@ abbrev pub site_after : {A : Type 0} → SiteReplica → Replica → LogEntry A 
 site_after s new entry v = record {
   catalogue = s.catalogue;
   takes_additions = s.takes_additions;
+  origin = s.origin;
   replica = new;
   replies = s.replies ++ reply_of (entry_of entry) ∷ [];
   additions = additions_after s.additions (entry_of entry) v new.position;
-  lasts = s.lasts;
+  sessions = s.sessions;
 }
 
 module _ {A : Type 0} (s : SiteReplica) (entries : List Entry) (e : Entry) (entry : LogEntry A) where

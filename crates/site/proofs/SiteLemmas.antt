@@ -23,8 +23,10 @@ use Rattle.log_model.specs.Entries.{Entry, ExecutedCall, CallEntry, AdditionEntr
 use Rattle.log_entry.specs.Bytes.{entry_bytes}
 use Rattle.replica.specs.Replica.{StandsFor, StandsIn, rows_kept}
 use Rattle.site_model.specs.Standing as model
+use Rattle.site_model.specs.declared.cause.NothingCause.{NothingCause}
 use Rattle.site_model.specs.declared.cause.NothingCause.TheVariants as cause
-use Rattle.site_model.specs.Standing.{SiteSetting, standing, standing_of_head, addition_standing, IsDecided, IsNothing, call_standing, executed, is_decided, is_true, run_standing, takes_arguments, writes_something}
+use Rattle.site_model.specs.Sessions.{Sessions, session_cause, session_opened}
+use Rattle.site_model.specs.Standing.{SiteSetting, standing, standing_of_head, addition_standing, IsDecided, OpensSession, IsNothing, call_standing, request_standing, unless_opened, executed, is_decided, is_true, run_standing, takes_arguments, writes_something}
 use Rattle.site.specs.Run.{CanRun}
 use Rattle.site.specs.declared.standing.Standing.{Standing}
 use Rattle.site.specs.Standing.{CanBeTaken, IsStanding}
@@ -122,23 +124,33 @@ is_true_where w log call bytes e b some same is =
 
 -- ---- a call, test by test
 
-module _ (w : Setting) (log : Log) (call : Call) (bytes : List ℕ) where
-  pub late : length log < call.snapshot → call_standing w log call bytes ≡ IsNothing cause.Snapshot
+module _ (s : SiteSetting) (known : Sessions) (log : Log) (call : Call) (bytes : List ℕ) where
+  abbrev w : Setting
+  w = s.setting
+
+  -- behind the test of its snapshot
+  abbrev by_request : Option NothingCause → model.Standing
+  by_request o = request_standing w log call bytes o
+
+  pub late : length log < call.snapshot → call_standing s known log call bytes ≡ IsNothing cause.Snapshot
   late lt =
       let a : not (nat_le call.snapshot (length log)) ≡ true = grind (arith, nat_tests) in
-      ap (λ b. cond b (IsNothing cause.Snapshot) (cond (is_decided w log call) (IsDecided call) (cond (not (takes_arguments (procedure_of w log call) call.args)) (IsNothing cause.Procedure) (run_standing w log call bytes)))) a
+      ap (λ b. cond b (IsNothing cause.Snapshot) (by_request (session_cause s.origin known call.request))) a
 
   early : call.snapshot ≤ length log → not (nat_le call.snapshot (length log)) ≡ false
   early le = grind (arith, nat_tests)
 
-  pub at_decided : call.snapshot ≤ length log → is_decided w log call ≡ true → call_standing w log call bytes ≡ IsDecided call
-  at_decided le d = (λ i. cond (early le i) (IsNothing cause.Snapshot) (cond (d i) (IsDecided call) (cond (not (takes_arguments (procedure_of w log call) call.args)) (IsNothing cause.Procedure) (run_standing w log call bytes))))
+  pub at_session : call.snapshot ≤ length log → (o : Option NothingCause) → session_cause s.origin known call.request ≡ o → call_standing s known log call bytes ≡ by_request o
+  at_session le o e = (λ i. cond (early le i) (IsNothing cause.Snapshot) (by_request (e i)))
 
-  pub at_procedure : call.snapshot ≤ length log → is_decided w log call ≡ false → takes_arguments (procedure_of w log call) call.args ≡ false → call_standing w log call bytes ≡ IsNothing cause.Procedure
-  at_procedure le d t = (λ i. cond (early le i) (IsNothing cause.Snapshot) (cond (d i) (IsDecided call) (cond (not (t i)) (IsNothing cause.Procedure) (run_standing w log call bytes))))
+  pub at_decided : call.snapshot ≤ length log → session_cause s.origin known call.request ≡ None → is_decided w log call ≡ true → call_standing s known log call bytes ≡ IsDecided call
+  at_decided le o d = at_session le None o ∙ (λ i. cond (d i) (IsDecided call) (cond (not (takes_arguments (procedure_of w log call) call.args)) (IsNothing cause.Procedure) (run_standing w log call bytes)))
 
-  pub at_run : call.snapshot ≤ length log → is_decided w log call ≡ false → takes_arguments (procedure_of w log call) call.args ≡ true → call_standing w log call bytes ≡ run_standing w log call bytes
-  at_run le d t = (λ i. cond (early le i) (IsNothing cause.Snapshot) (cond (d i) (IsDecided call) (cond (not (t i)) (IsNothing cause.Procedure) (run_standing w log call bytes))))
+  pub at_procedure : call.snapshot ≤ length log → session_cause s.origin known call.request ≡ None → is_decided w log call ≡ false → takes_arguments (procedure_of w log call) call.args ≡ false → call_standing s known log call bytes ≡ IsNothing cause.Procedure
+  at_procedure le o d t = at_session le None o ∙ (λ i. cond (d i) (IsDecided call) (cond (not (t i)) (IsNothing cause.Procedure) (run_standing w log call bytes)))
+
+  pub at_run : call.snapshot ≤ length log → session_cause s.origin known call.request ≡ None → is_decided w log call ≡ false → takes_arguments (procedure_of w log call) call.args ≡ true → call_standing s known log call bytes ≡ run_standing w log call bytes
+  at_run le o d t = at_session le None o ∙ (λ i. cond (d i) (IsDecided call) (cond (not (t i)) (IsNothing cause.Procedure) (run_standing w log call bytes)))
 
 pub none_found : (tables : Tables) (o : Option StoredProcedure) (args : List ℕ) → None ≡ option_map (accepted_of tables) o → takes_arguments o args ≡ false
 none_found tables None args e = refl
@@ -165,9 +177,14 @@ can_run s entries accepted call stands is =
 
 -- ---- any bytes
 
-pub stands_by : (s : SiteSetting) (log : Log) (bytes : List ℕ) (h : Option Head) → head_of bytes ≡ h → standing s log bytes ≡ standing_of_head s log bytes h
+-- bytes that open no session
+pub stands_by : (s : SiteSetting) (known : Sessions) (log : Log) (bytes : List ℕ) (h : Option Head) → session_opened s.origin known.opened bytes ≡ None → head_of bytes ≡ h → standing s known log bytes ≡ standing_of_head s known log bytes h
 unfolding standing
-stands_by s log bytes h e = ap (standing_of_head s log bytes) e
+stands_by s known log bytes h none e = (λ i. unless_opened (none i) (standing_of_head s known log bytes (e i)))
+
+pub stands_opened : (s : SiteSetting) (known : Sessions) (log : Log) (bytes : List ℕ) (session : ℕ) → session_opened s.origin known.opened bytes ≡ Some session → standing s known log bytes ≡ OpensSession session
+unfolding standing
+stands_opened s known log bytes session e = ap (λ (o : Option ℕ). unless_opened o (standing_of_head s known log bytes (head_of bytes))) e
 
 abbrev pub AcceptedAreSafe : Type 0
 AcceptedAreSafe = (tables : Tables) (p : StoredProcedure) → IsProgram p.program → AreTables tables → IsAccepted (record { program = p.program; tables = tables; args_len = p.args_len }) → IsSafe tables p
@@ -189,16 +206,16 @@ addition_taken tables added law are named for_tables program is = record {
     one : (p q : StoredProcedure) → AdditionEntry p ≡ AdditionEntry q → p ≡ q
     one p q e = cc
 
-module _ {A E : Type 0} (s : SiteReplica) (bytes : List ℕ) where
+module _ {A E : Type 0} (s : SiteReplica) (bytes : List ℕ) (none : session_opened (setting_of s).origin s.sessions.opened bytes ≡ None) where
   abbrev AnswersStanding : Result (Standing A) E → Type 0
-  AnswersStanding r = IfOk r (λ st. (entries : List Entry) → StandsForLog s entries → IsStanding (standing (setting_of s) (items_of entries) bytes) st)
+  AnswersStanding r = IfOk r (λ st. (entries : List Entry) → StandsForLog s entries → IsStanding (standing (setting_of s) s.sessions (items_of entries) bytes) st)
 
-  pub call_is : (call : Call) (reply : ℕ) (r : Result (Standing A) E) → head_of bytes ≡ Some (CallHead call reply) → IfOk r (λ st. (entries : List Entry) → StandsForLog s entries → IsStanding (call_standing (setting_of s).setting (items_of entries) call bytes) st) → AnswersStanding r
-  call_is call reply (Ok st) head h = λ entries stands. subst (λ (m : model.Standing). IsStanding m st) (sym (stands_by (setting_of s) (items_of entries) bytes (Some (CallHead call reply)) head)) (h entries stands)
+  pub call_is : (call : Call) (reply : ℕ) (r : Result (Standing A) E) → head_of bytes ≡ Some (CallHead call reply) → IfOk r (λ st. (entries : List Entry) → StandsForLog s entries → IsStanding (call_standing (setting_of s) s.sessions (items_of entries) call bytes) st) → AnswersStanding r
+  call_is call reply (Ok st) head h = λ entries stands. subst (λ (m : model.Standing). IsStanding m st) (sym (stands_by (setting_of s) s.sessions (items_of entries) bytes (Some (CallHead call reply)) none head)) (h entries stands)
   call_is call reply (Err e) head h = tt
 
   pub addition_is : (p : NamedProcedure) (r : Result (Standing A) E) → head_of bytes ≡ Some (AdditionHead p) → IfOk r (λ st. IsStanding (addition_standing (setting_of s) p) st) → AnswersStanding r
-  addition_is p (Ok st) head h = λ entries stands. subst (λ (m : model.Standing). IsStanding m st) (sym (stands_by (setting_of s) (items_of entries) bytes (Some (AdditionHead p)) head)) h
+  addition_is p (Ok st) head h = λ entries stands. subst (λ (m : model.Standing). IsStanding m st) (sym (stands_by (setting_of s) s.sessions (items_of entries) bytes (Some (AdditionHead p)) none head)) h
   addition_is p (Err e) head h = tt
 
 -- ---- at first, and the rows

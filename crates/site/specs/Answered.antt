@@ -6,7 +6,7 @@ use Rattle.log_entry.specs.Bytes.{entry_bytes}
 use Rattle.log_entry.specs.declared.entry.Entry.{Entry as LogEntry}
 use Rattle.log_entry.specs.Kind.{entry_of}
 use Rattle.site_model.specs.declared.answer.CallAnswer.{CallAnswer}
-use Rattle.site_model.specs.declared.answer.CallAnswer.TheVariants.{Refused, Repeated, Cancelled, Read, Submitted}
+use Rattle.site_model.specs.declared.answer.CallAnswer.TheVariants.{Refused, OutOfSession, Repeated, Cancelled, Read, Submitted}
 use Rattle.site_model.specs.declared.answer.AdditionAnswer.{AdditionAnswer}
 use Rattle.site_model.specs.declared.answer.AdditionAnswer.TheVariants as addition
 use Rattle.site_model.specs.Answer.{Asked}
@@ -18,6 +18,7 @@ asked_of asked = record { name = asked.name.now; args = asked.args.now; request 
 -- what is to be ordered, by its bytes
 abbrev pub answered : {A : Type 0} → CallAnswer (LogEntry A) → CallAnswer (List ℕ)
 answered (Refused refusal) = Refused refusal
+answered OutOfSession = OutOfSession
 answered (Repeated position reply) = Repeated position reply
 answered (Cancelled position code) = Cancelled position code
 answered (Read position reply) = Read position reply

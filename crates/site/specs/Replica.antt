@@ -1,6 +1,6 @@
 -- A site, and the order for which it stands.
 use Rattle.std.specs.Prelude.{◌≡◌, ℕ, ◌<◌, ◌≤◌, ◌==◌, find, Bool, false, List, map, length, reverse, Option, Some, None, refl}
-use Rattle.std.specs.Coded.{Coded, code_by, coded×, coded_ℕ, coded_bool, coded_list}
+use Rattle.std.specs.Coded.{Coded, code_by, coded×, coded_ℕ, coded_bool, coded_list, coded_option}
 use Rattle.std.specs.FinMap as finite
 use Rattle.catalogue.specs.Catalogue.{SystemCatalogue, system_setting}
 use Rattle.catalogue.specs.Held.{catalogue_code}
@@ -11,23 +11,26 @@ use Rattle.replica.specs.Replica.{Replica, StandsIn}
 use Rattle.replica.specs.Codes.{replica_code}
 use Rattle.site_model.specs.Fit.{AreFitEntries}
 use Rattle.site_model.specs.Standing.{SiteSetting}
-use Rattle.site_model.specs.Order.{Order, order_entries, reply_in}
-use Rattle.site_model.specs.Sessions.{LastRequests, lasts_after}
+use Rattle.site_model.specs.Order.{Order, order_entries, reply_in, sessions_after}
+use Rattle.site_model.specs.Sessions.{LastRequests, Sessions}
+use Rattle.site_model.specs.declared.origin.Origin.{Origin}
 
--- the tables and what the database begins with, whether procedures may be added, what its replica keeps, the reply at
--- each position, the positions of the procedures that were added, by number, and what each session has done last
+-- the tables and what the database begins with, whether procedures may be added, what came before the order, what its replica
+-- keeps, the reply at each position, the positions of the procedures that were added, by number, and what is known of sessions
 pub record SiteReplica : Type 0 where
   pub catalogue : SystemCatalogue
   pub takes_additions : Bool
+  pub origin : Option Origin
   pub replica : Replica
   pub replies : List ℕ
   pub additions : List (ℕ × ℕ)
-  pub lasts : LastRequests
+  pub sessions : Sessions
 
 abbrev pub setting_of : SiteReplica → SiteSetting
 setting_of s = record {
   setting = system_setting s.catalogue s.replica.window;
   takes_additions = s.takes_additions;
+  origin = s.origin;
 }
 
 -- ---- since when a number is a procedure's
@@ -64,21 +67,29 @@ pub record StandsForLog (s : SiteReplica) (entries : List Entry) : Type 0 where
 -- and what it knows of sessions is what the order did
 pub record StandsForOrder (s : SiteReplica) (order : Order) : Type 0 where
   pub log : StandsForLog s (order_entries (setting_of s) order)
-  pub lasts : s.lasts ≡ lasts_after (setting_of s) order
+  pub sessions : s.sessions ≡ sessions_after (setting_of s) order
 
 -- ---- how sites are told from others, as the checker needs it
 
+abbrev origin_code : Coded Origin
+origin_code = code_by (ℕ × ℕ) (coded× coded_ℕ coded_ℕ) (λ o. (o.strings, o.sessions)) (λ c. record { strings = c.0; sessions = c.1 }) (λ _. refl)
+
+abbrev pub sessions_code : Coded Sessions
+sessions_code = code_by (ℕ × LastRequests) (coded× coded_ℕ (finite.code coded_ℕ done_code))
+    (λ s. (s.opened, s.lasts)) (λ c. record { opened = c.0; lasts = c.1 }) (λ _. refl)
+
 abbrev pub site_code : Coded SiteReplica
-site_code = code_by (SystemCatalogue × (Bool × (Replica × (List ℕ × (List (ℕ × ℕ) × LastRequests)))))
-    (coded× catalogue_code (coded× coded_bool (coded× replica_code
-    (coded× (coded_list coded_ℕ) (coded× (coded_list (coded× coded_ℕ coded_ℕ)) (finite.code coded_ℕ done_code))))))
-    (λ s. (s.catalogue, (s.takes_additions, (s.replica, (s.replies, (s.additions, s.lasts))))))
+site_code = code_by (SystemCatalogue × (Bool × (Option Origin × (Replica × (List ℕ × (List (ℕ × ℕ) × Sessions))))))
+    (coded× catalogue_code (coded× coded_bool (coded× (coded_option origin_code) (coded× replica_code
+    (coded× (coded_list coded_ℕ) (coded× (coded_list (coded× coded_ℕ coded_ℕ)) sessions_code))))))
+    (λ s. (s.catalogue, (s.takes_additions, (s.origin, (s.replica, (s.replies, (s.additions, s.sessions)))))))
     (λ c. record {
       catalogue = c.0;
       takes_additions = c.1.0;
-      replica = c.1.1.0;
-      replies = c.1.1.1.0;
-      additions = c.1.1.1.1.0;
-      lasts = c.1.1.1.1.1;
+      origin = c.1.1.0;
+      replica = c.1.1.1.0;
+      replies = c.1.1.1.1.0;
+      additions = c.1.1.1.1.1.0;
+      sessions = c.1.1.1.1.1.1;
     })
     (λ _. refl)

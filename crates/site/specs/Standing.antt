@@ -11,7 +11,7 @@ use Rattle.log_entry.specs.declared.head.CallHead.{CallHead}
 use Rattle.replica.specs.Replica.{IsForTables, IsNamed, writes_in}
 use Rattle.site_model.specs.Standing as model
 use Rattle.site.specs.declared.standing.Standing.{Standing}
-use Rattle.site.specs.declared.standing.Standing.TheVariants.{StandsAs, Decided, Nothing}
+use Rattle.site.specs.declared.standing.Standing.TheVariants.{StandsAs, Decided, Opens, Nothing}
 
 -- a call as its head names it
 abbrev pub head_call : CallHead → Call
@@ -26,6 +26,7 @@ head_call head = record {
 abbrev pub IsStanding : {A : Type 0} → model.Standing → Standing A → Type 0
 IsStanding (model.StandsAs e) (StandsAs entry) = e ≡ entry_of entry
 IsStanding (model.IsDecided call) (Decided snapshot request) = (call.snapshot ≡ snapshot) × (call.request ≡ request)
+IsStanding (model.OpensSession a) (Opens b) = a ≡ b
 IsStanding (model.IsNothing c) (Nothing d) = c ≡ d
 IsStanding _ _ = ⊥
 

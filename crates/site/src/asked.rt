@@ -75,12 +75,13 @@ pub fn call<A: Allocator + Copy>(
 ) -> Result<CallAnswer<Entry<A>>, AllocError>
     requires stands { (entries : List ModelEntry) × StandsForLog site.now entries }
     ensures answer { IfOk result (λ answer. (entries : List ModelEntry) → StandsForLog site.now entries
-        → answered answer ≡ call_answer_behind (setting_of site.now).setting entries (asked_of asked.entry)) }
+        → answered answer ≡ call_answer_behind (setting_of site.now) site.now.sessions entries (asked_of asked.entry)) }
     ensures fits { IfOk result (λ answer. (entries : List ModelEntry) (bytes : List ℕ) → StandsForLog site.now entries
         → answered answer ≡ Submitted bytes
         → IsAskedBehind (setting_of site.now).setting entries (asked_of asked.entry)) }
     ensures memory { OnErr result ((entries : List ModelEntry) → StandsForLog site.now entries
-        → IsTrue (takes_memory (call_answer_behind (setting_of site.now).setting entries (asked_of asked.entry)))) }
+        → IsTrue (takes_memory
+        (call_answer_behind (setting_of site.now) site.now.sessions entries (asked_of asked.entry)))) }
 {
     // Laws:
     entries_suffice();
@@ -94,6 +95,9 @@ pub fn call<A: Allocator + Copy>(
         Ok(accepted) => accepted,
         Err(refusal) => return Ok(CallAnswer::Refused(refusal)),
     };
+    if site.session_cause(asked.request).is_some() {
+        return Ok(CallAnswer::OutOfSession);
+    }
     if let Some(position) = site.repeated(asked.request) {
         let reply = site.reply_to(asked.request, position);
         return Ok(CallAnswer::Repeated { position, reply });

@@ -4,13 +4,11 @@ ghost use Rattle.std.specs.Prelude.{◌≡◌, OnOk, IfOk};
 ghost use Rattle.std.specs.Option.{option_copied};
 ghost use Rattle.std.specs.FinMap.{empty, get};
 ghost use Rattle.log_entry.specs.Head.{head_of};
-ghost use Rattle.log_model.specs.Log.{DoneRequest as Done};
-ghost use Rattle.site_model.specs.Sessions.{done_by, is_no_earlier, lasts_of, with_done, with_done_if};
+ghost use Rattle.site_model.specs.Sessions.{done_by, lasts_of, with_done};
 
-use crate::state::SiteReplica;
+use crate::sessions::is_superseded;
 use catalogue::DoneRequest;
 use log_entry::{EntryHead, head_of};
-use log_model::RequestId;
 use site_model::EntryOutcome;
 use std::alloc::{AllocError, Allocator, Global};
 use std::collections::BTreeMap;
@@ -61,21 +59,11 @@ impl<A: Allocator + Copy> LastRequests<A> {
         ensures noted { OnOk result (self.new ≡ with_done self.old done) }
     {
         let request = done.request();
-        if !is_no_earlier(self.last(request.session), request) {
+        if is_superseded(self.last(request.session), request) {
             return Ok(());
         }
         self.requests.insert(request.session, done)?;
         Ok(())
-    }
-}
-
-/// Tells whether a request has no lower number than the last of its session.
-fn is_no_earlier<A: Allocator>(last: Option<&DoneRequest<A>>, request: RequestId) -> bool
-    ensures { (done : Done) → done.request ≡ request → result ≡ is_no_earlier (option_copied last.entry) done }
-{
-    match last {
-        Some(last) => last.request().sequence <= request.sequence,
-        None => true,
     }
 }
 
@@ -95,7 +83,7 @@ pub(crate) fn lasts_of<A: Allocator + Copy, P: Allocator>(
 }
 
 /// What the bytes of a call with a request have done, where the call committed.
-fn done_by<A: Allocator + Copy>(
+pub(crate) fn done_by<A: Allocator + Copy>(
     alloc: A,
     bytes: &[u8],
     outcome: EntryOutcome,
@@ -113,22 +101,4 @@ fn done_by<A: Allocator + Copy>(
     };
     let args = Vec::from_slice(alloc, call.args)?;
     Ok(Some(DoneRequest::new(request, reply, call.procedure, args)))
-}
-
-impl<A: Allocator + Copy> SiteReplica<A> {
-    /// Takes what the bytes at the last position have done by this outcome.
-    pub(crate) fn note_done(
-        &mut self,
-        bytes: &[u8],
-        outcome: EntryOutcome,
-    ) -> Result<(), AllocError>
-        ensures { OnOk result (self.new ≡ record self.old {
-          lasts = with_done_if self.old.lasts (done_by (head_of bytes.now) outcome);
-        }) }
-    {
-        match done_by(self.alloc, bytes, outcome)? {
-            Some(done) => self.lasts.note(done),
-            None => Ok(()),
-        }
-    }
 }

@@ -13,6 +13,7 @@ mod outcome;
 mod replies;
 mod run;
 mod same_bytes;
+mod sessions;
 mod site;
 mod standing;
 mod state;

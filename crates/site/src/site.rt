@@ -3,8 +3,7 @@
 ghost use Rattle.std.specs.Prelude.{◌≡◌, ◌+◌, ◌<◌, ◌≤◌, ◌^◌, ◌++◌, [], ◌∷◌, ℕ, List, false, length, IfOk, OnErr, IsTrue};
 ghost use Rattle.std.specs.FinMap as map;
 ghost use Rattle.log_model.specs.Log.{rows_after};
-ghost use Rattle.site_model.specs.Order.{Order, next_outcome, order_log};
-ghost use Rattle.site_model.specs.Sessions.{lasts_after};
+ghost use Rattle.site_model.specs.Order.{Order, next_outcome, order_log, sessions_after};
 ghost use Rattle.schema.specs.declared.limits.TheConstants.{MAX_ARGUMENTS};
 ghost use Rattle.site_model.specs.Answer.{addition_answer, call_answer, takes_memory};
 ghost use Rattle.site_model.specs.declared.answer.CallAnswer.TheVariants.{Submitted};
@@ -16,7 +15,7 @@ ghost use Rattle.catalogue.specs.Catalogue.{system_setting};
 
 use crate::addition::add;
 use crate::asked::{Asked, call};
-use crate::lasts::LastRequests;
+use crate::sessions::Sessions;
 use crate::state::SiteReplica;
 use crate::take::take;
 use catalogue::Catalogue;
@@ -24,7 +23,8 @@ use log_entry::{Entry, NamedProgram};
 use replica::At;
 use row_sets::Row;
 use site_model::{
-    AdditionAnswer, CallAnswer, EntryOutcome, fit_entries_go_on, last_requests_go_on, orders_grow,
+    AdditionAnswer, CallAnswer, EntryOutcome, Origin, fit_entries_go_on, orders_grow,
+    sessions_go_on,
 };
 use std::alloc::{AllocError, Allocator, Global};
 use std::marker::Model;
@@ -51,23 +51,25 @@ impl<A: Allocator + Copy> Model for Site<A> {
 
 impl<A: Allocator + Copy> Site<A> {
     /// Makes a site that was given nothing, with the tables, rows, requests and procedures of a catalogue. A call is
-    /// stale where more byte strings than the window came since its snapshot.
+    /// stale where more byte strings than the window came since its snapshot. An order with an origin opens sessions.
     pub fn new(
         alloc: A,
         window: u32,
         catalogue: Catalogue<A>,
         takes_additions: bool,
+        origin: Option<Origin>,
     ) -> Result<Site<A>, AllocError>
         ensures stands { IfOk result (λ s. StandsForOrder s []) }
         ensures setting { IfOk result (λ s. setting_of s ≡ record {
           setting = system_setting catalogue window;
           takes_additions = takes_additions;
+          origin = origin;
         }) }
     {
         // Laws:
         orders_grow();
-        last_requests_go_on();
-        let replica = SiteReplica::new(alloc, window, catalogue, takes_additions)?;
+        sessions_go_on();
+        let replica = SiteReplica::new(alloc, window, catalogue, takes_additions, origin)?;
         Ok(Site { replica })
     }
 
@@ -94,19 +96,26 @@ impl<A: Allocator + Copy> Site<A> {
     {
         // Laws:
         orders_grow();
-        last_requests_go_on();
+        sessions_go_on();
         let Site { mut replica } = self;
         let outcome = take(&mut replica, bytes)?;
-        replica.note_done(bytes, outcome)?;
+        replica.note(bytes, outcome)?;
         Ok((Site { replica }, outcome))
     }
 
-    /// The request of the greatest number that each session has done, in the order or before.
-    pub fn last_requests(&self) -> &LastRequests<A>
-        ensures { (order : Order) → StandsForOrder self.now order
-            → result.now ≡ lasts_after (setting_of self.now) order }
+    /// What came before the order, where the order opens sessions.
+    pub fn origin(&self) -> Option<Origin>
+        ensures { result ≡ (setting_of self.now).origin }
     {
-        self.replica.last_requests()
+        self.replica.origin()
+    }
+
+    /// The sessions that the order opened, and the last request of each session, in the order or before.
+    pub fn sessions(&self) -> &Sessions<A>
+        ensures { (order : Order) → StandsForOrder self.now order
+            → result.now ≡ sessions_after (setting_of self.now) order }
+    {
+        self.replica.sessions()
     }
 
     /// The rows at the last position, in the order of tables and keys.

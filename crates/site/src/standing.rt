@@ -33,6 +33,8 @@ pub enum Standing<A: Allocator + Copy> {
         snapshot: u32,
         request: Option<RequestId>,
     },
+    /// The session of this number is opened.
+    Opens(u32),
     Nothing(NothingCause),
 }
 
@@ -72,12 +74,15 @@ impl<A: Allocator + Copy> SiteReplica<A> {
     fn call_standing(&self, head: CallHead<'_>, bytes: &[u8]) -> Result<Standing<A>, AllocError>
         requires stands { (entries : List ModelEntry) × StandsForLog self.now entries }
         ensures is { IfOk result (λ st. (entries : List ModelEntry) → StandsForLog self.now entries
-            → IsStanding (call_standing (setting_of self.now).setting (items_of entries) (head_call head.entry)
-            bytes.now) st) }
+            → IsStanding (call_standing (setting_of self.now) self.now.sessions (items_of entries)
+            (head_call head.entry) bytes.now) st) }
         ensures ready { IfOk result (IsReady self.now.catalogue.tables) }
     {
         if head.snapshot > self.replica.position() {
             return Ok(Standing::Nothing(NothingCause::Snapshot));
+        }
+        if let Some(cause) = self.session_cause(head.request) {
+            return Ok(Standing::Nothing(cause));
         }
         if self.is_decided(head.request, head.snapshot) {
             return Ok(Standing::Decided {
@@ -126,9 +131,12 @@ impl<A: Allocator + Copy> SiteReplica<A> {
     pub fn standing(&self, bytes: &[u8]) -> Result<Standing<A>, AllocError>
         requires stands { (entries : List ModelEntry) × StandsForLog self.now entries }
         ensures is { IfOk result (λ st. (entries : List ModelEntry) → StandsForLog self.now entries
-            → IsStanding (standing (setting_of self.now) (items_of entries) bytes.now) st) }
+            → IsStanding (standing (setting_of self.now) self.now.sessions (items_of entries) bytes.now) st) }
         ensures ready { IfOk result (IsReady self.now.catalogue.tables) }
     {
+        if let Some(session) = self.sessions.opened_by(self.origin, bytes) {
+            return Ok(Standing::Opens(session));
+        }
         match head_of(bytes) {
             None => Ok(Standing::Nothing(NothingCause::Unreadable)),
             Some(EntryHead::Call(head)) => self.call_standing(head, bytes),

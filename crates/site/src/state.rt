@@ -1,21 +1,21 @@
 //! The replica of a site.
 
-ghost use Rattle.std.specs.Prelude.{◌≡◌, List, [], length, map, IfOk};
+ghost use Rattle.std.specs.Prelude.{◌≡◌, ◌+◌, ◌<◌, ◌^◌, List, [], length, map, IfOk, OnOk};
 ghost use Rattle.std.specs.FinMap as finite;
 ghost use Rattle.log_model.specs.Log.{done_at, history, rows_after};
 ghost use Rattle.log_model.specs.Entries.{Entry as ModelEntry, items_of};
 ghost use Rattle.site_model.specs.Order.{reply_to};
-ghost use Rattle.site_model.specs.Sessions.{lasts_of};
+ghost use Rattle.site_model.specs.Sessions.{lasts_of, session_cause, sessions_with};
 ghost use Rattle.site.specs.Replica.{StandsForLog, reply_of, setting_of};
 ghost use Rattle.catalogue.specs.Catalogue.{system_setting};
 
-use crate::lasts::{LastRequests, lasts_of};
 use crate::replies::reply_to;
+use crate::sessions::Sessions;
 use catalogue::{Catalogue, catalogues_are_safe};
 use log_model::{RequestId, entries_suffice};
 use replica::Replica;
 use row_sets::Row;
-use site_model::fit_entries_go_on;
+use site_model::{EntryOutcome, NothingCause, Origin, fit_entries_go_on};
 use std::alloc::{AllocError, Allocator, Global};
 use std::marker::Model;
 
@@ -25,12 +25,13 @@ pub struct SiteReplica<A: Allocator + Copy = Global> {
     pub(crate) alloc: A,
     pub(crate) catalogue: Catalogue<A>,
     pub(crate) takes_additions: bool,
+    pub(crate) origin: Option<Origin>,
     pub(crate) replica: Replica<A>,
     /// The reply at each position.
     pub(crate) replies: Vec<u64, A>,
     /// The number of each procedure that was added, and its position.
     pub(crate) additions: Vec<(u16, u32), A>,
-    pub(crate) lasts: LastRequests<A>,
+    pub(crate) sessions: Sessions<A>,
 }
 
 impl<A: Allocator + Copy> Model for SiteReplica<A> {
@@ -43,10 +44,11 @@ impl<A: Allocator + Copy> Model for SiteReplica<A> {
     ghost view = { λ s. record {
       catalogue = s.catalogue;
       takes_additions = s.takes_additions;
+      origin = s.origin;
       replica = s.replica;
       replies = s.replies.items;
       additions = s.additions.items;
-      lasts = s.lasts;
+      sessions = s.sessions;
     } };
 }
 
@@ -58,25 +60,28 @@ impl<A: Allocator + Copy> SiteReplica<A> {
         window: u32,
         catalogue: Catalogue<A>,
         takes_additions: bool,
+        origin: Option<Origin>,
     ) -> Result<SiteReplica<A>, AllocError>
         ensures stands { IfOk result (λ s. StandsForLog s []) }
-        ensures lasts { IfOk result (λ s. s.lasts ≡ lasts_of catalogue.requests) }
+        ensures sessions { IfOk result (λ s. s.sessions ≡ record { opened = 0; lasts = lasts_of catalogue.requests }) }
         ensures setting { IfOk result (λ s. setting_of s ≡ record {
           setting = system_setting catalogue window;
           takes_additions = takes_additions;
+          origin = origin;
         }) }
     {
         catalogues_are_safe(&catalogue);
         let replica = Replica::new(alloc, window, &catalogue)?;
-        let lasts = lasts_of(alloc, catalogue.requests().requests())?;
+        let sessions = Sessions::before(alloc, catalogue.requests().requests())?;
         Ok(SiteReplica {
             alloc,
             catalogue,
             takes_additions,
+            origin,
             replica,
             replies: Vec::new(alloc),
             additions: Vec::new(alloc),
-            lasts,
+            sessions,
         })
     }
 
@@ -110,11 +115,35 @@ impl<A: Allocator + Copy> SiteReplica<A> {
         &self.catalogue
     }
 
-    /// The last request of each session.
-    pub fn last_requests(&self) -> &LastRequests<A>
-        ensures { result.now ≡ self.now.lasts }
+    /// What came before the order, where the order opens sessions.
+    pub fn origin(&self) -> Option<Origin>
+        ensures { result ≡ self.now.origin }
     {
-        &self.lasts
+        self.origin
+    }
+
+    /// What is known of sessions.
+    pub fn sessions(&self) -> &Sessions<A>
+        ensures { result.now ≡ self.now.sessions }
+    {
+        &self.sessions
+    }
+
+    /// Returns why a call with this request can't be taken for its session's sake.
+    pub(crate) fn session_cause(&self, request: Option<RequestId>) -> Option<NothingCause>
+        ensures { result ≡ session_cause (setting_of self.now).origin self.now.sessions request }
+    {
+        self.sessions.cause(self.origin, request)
+    }
+
+    /// Takes what the bytes at the last position came to.
+    pub(crate) fn note(&mut self, bytes: &[u8], outcome: EntryOutcome) -> Result<(), AllocError>
+        requires room { self.old.sessions.opened + 1 < 2 ^ 32 }
+        ensures { OnOk result (self.new ≡ record self.old {
+          sessions = sessions_with self.old.sessions bytes.now outcome;
+        }) }
+    {
+        self.sessions.note(self.alloc, bytes, outcome)
     }
 
     /// Tells whether procedures may be added.

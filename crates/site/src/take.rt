@@ -63,7 +63,7 @@ fn take_entry<A: Allocator + Copy>(
     ensures stands { OnOk result ((entries : List ModelEntry) (e : ModelEntry)
         → Follows replica.old entries e entry.now → StandsForLog replica.new (entries ++ e ∷ [])) }
     ensures setting { OnOk result (setting_of replica.new ≡ setting_of replica.old) }
-    ensures lasts { OnOk result (replica.new.lasts ≡ replica.old.lasts) }
+    ensures sessions { OnOk result (replica.new.sessions ≡ replica.old.sessions) }
 {
     let verdict = replica.deliver(entry)?;
     Ok(outcome_by(replica, request_of(entry), committed, verdict))
@@ -77,11 +77,11 @@ pub(crate) fn take<A: Allocator + Copy>(
     requires room { replica.old.replica.position + 1 < 2 ^ 32 }
     requires stands { (entries : List ModelEntry) × StandsForLog replica.old entries }
     ensures outcome { IfOk result (λ outcome. (entries : List ModelEntry) → StandsForLog replica.old entries
-        → outcome ≡ outcome_behind (setting_of replica.old) entries bytes.now) }
+        → outcome ≡ outcome_behind (setting_of replica.old) replica.old.sessions entries bytes.now) }
     ensures stands { OnOk result ((entries : List ModelEntry) → StandsForLog replica.old entries
-        → StandsForLog replica.new (with_bytes (setting_of replica.old) entries bytes.now)) }
+        → StandsForLog replica.new (with_bytes (setting_of replica.old) replica.old.sessions entries bytes.now)) }
     ensures setting { OnOk result (setting_of replica.new ≡ setting_of replica.old) }
-    ensures lasts { OnOk result (replica.new.lasts ≡ replica.old.lasts) }
+    ensures sessions { OnOk result (replica.new.sessions ≡ replica.old.sessions) }
 {
     // Laws:
     what_stands_is_of_the_log();
@@ -95,6 +95,11 @@ pub(crate) fn take<A: Allocator + Copy>(
         Standing::Decided { snapshot, request } => {
             let entry = entry_of_none(alloc, snapshot, request);
             take_entry(replica, &entry, EntryOutcome::Stale)
+        }
+        Standing::Opens(session) => {
+            let entry = entry_of_none(alloc, replica.position(), None);
+            take_entry(replica, &entry, EntryOutcome::Session(session))?;
+            Ok(EntryOutcome::Session(session))
         }
         Standing::Nothing(cause) => {
             let entry = entry_of_none(alloc, replica.position(), None);

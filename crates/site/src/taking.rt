@@ -59,7 +59,7 @@ impl<A: Allocator + Copy> SiteReplica<A> {
         ensures stands { OnOk result ((entries : List ModelEntry) (e : ModelEntry)
             → Follows self.old entries e entry.now → StandsForLog self.new (entries ++ e ∷ [])) }
         ensures setting { setting_of self.new ≡ setting_of self.old }
-        ensures lasts { self.new.lasts ≡ self.old.lasts }
+        ensures sessions { self.new.sessions ≡ self.old.sessions }
     {
         // Laws:
         a_log_only_grows();

@@ -9,14 +9,16 @@ use Rattle.log_model.specs.Entries.{Entry, CallEntry, items_of}
 use Rattle.log_entry.specs.Bytes.{entry_bytes}
 use Rattle.log_entry.specs.Head.{AdditionHead, CallHead, NamedProcedure, addition_head, call_head, call_of, field, head_of, procedure_of as named_procedure_of, request_of}
 use Rattle.site_model.specs.declared.answer.CallAnswer.{CallAnswer}
-use Rattle.site_model.specs.declared.answer.CallAnswer.TheVariants.{Read, Refused, Submitted}
+use Rattle.site_model.specs.declared.answer.CallAnswer.TheVariants.{OutOfSession, Read, Refused, Submitted}
 use Rattle.log_model.specs.declared.refusal.CallRefusal.{CallRefusal}
 use Rattle.log_model.specs.declared.refusal.CallRefusal.TheVariants.{ArgumentsLength, NoProcedure, ZeroInRequest}
 use Rattle.log_model.specs.Admission.{admission}
 use Rattle.log_model.proofs.AdmissionLemmas.{has_a_zero, is_unfit, is_unknown}
+use Rattle.site_model.specs.declared.cause.NothingCause.{NothingCause}
+use Rattle.site_model.specs.Sessions.{Sessions, session_cause}
 use Rattle.site_model.specs.Standing.{SiteSetting, executed, takes_arguments}
-use Rattle.site_model.specs.Order.{reply_to, Order, order_entries, order_log}
-use Rattle.site_model.specs.Answer.{Asked, answer_for, answer_of_admission, answer_of_run, asked_call, call_answer, unless_cancelled, unless_repeated}
+use Rattle.site_model.specs.Order.{reply_to, Order, order_entries, order_log, sessions_after}
+use Rattle.site_model.specs.Answer.{Asked, answer_for, answer_of_admission, answer_of_run, asked_call, call_answer, in_session, unless_cancelled, unless_repeated}
 use Rattle.site_laws.specs.Orders.{procedures_behind}
 use Rattle.site_laws.proofs.SettledLemmas.{settled_answer}
 
@@ -25,9 +27,9 @@ use Rattle.site_laws.proofs.SettledLemmas.{settled_answer}
 abbrev pub Count : Type 0
 Count = (s : SiteSetting) (order : Order) → length (order_entries s order) ≡ length order
 
-pub answer_is : Count → (s : SiteSetting) (order : Order) (asked : Asked) → call_answer s order asked ≡ answer_for s.setting (order_entries s order) asked (by_name (procedures_behind s order) asked.name)
+pub answer_is : Count → (s : SiteSetting) (order : Order) (asked : Asked) → call_answer s order asked ≡ answer_for s (sessions_after s order) (order_entries s order) asked (by_name (procedures_behind s order) asked.name)
 answer_is count s order asked =
-    settled_answer s order asked ∙ ap (λ (n : ℕ). answer_for s.setting (order_entries s order) asked (by_name (procedures_after s.setting (order_log s order) n) asked.name)) (count s order)
+    settled_answer s order asked ∙ ap (λ (n : ℕ). answer_for s (sessions_after s order) (order_entries s order) asked (by_name (procedures_after s.setting (order_log s order) n) asked.name)) (count s order)
 
 -- ---- refusals by their tests
 
@@ -37,47 +39,68 @@ as_answer r = Refused r
 abbrev as_error : CallRefusal → Result StoredProcedure CallRefusal
 as_error r = Err r
 
--- what comes of a run is no refusal
-never_refused : (replies : ℕ → ℕ) (position : ℕ) (r : Run) (bytes : List ℕ) (code o : Option ℕ) (refusal : CallRefusal) → unless_repeated replies (unless_cancelled position r bytes code) o ≡ Refused refusal → ⊥
-never_refused replies position r bytes code (Some n) refusal e = absurd cc
-never_refused replies position r bytes (Some c) None refusal e = absurd cc
-never_refused replies position r bytes None None refusal e = by_count (len r.writes == 0) e
+-- what comes of a run is no refusal, nor out of its session
+abbrev IsOfRun : CallAnswer (List ℕ) → Type 0
+IsOfRun (Refused refusal) = ⊥
+IsOfRun OutOfSession = ⊥
+IsOfRun answer = Unit {0}
+
+comes_of_run : (replies : ℕ → ℕ) (position : ℕ) (r : Run) (bytes : List ℕ) (code o : Option ℕ) → IsOfRun (unless_repeated replies (unless_cancelled position r bytes code) o)
+comes_of_run replies position r bytes code (Some n) = tt
+comes_of_run replies position r bytes (Some c) None = tt
+comes_of_run replies position r bytes None None = by_count (len r.writes == 0)
   where
-    by_count : (b : Bool) → cond b (Read position r.reply) (Submitted bytes) ≡ Refused refusal → ⊥
-    by_count true e = absurd cc
-    by_count false e = absurd cc
+    by_count : (b : Bool) → IsOfRun (cond b (Read position r.reply) (Submitted bytes))
+    by_count true = tt
+    by_count false = tt
 
 abbrev run_answer : Setting → List Entry → Asked → StoredProcedure → CallAnswer (List ℕ)
 run_answer w entries asked p =
     unless_repeated (reply_to w entries asked.request) (answer_of_run w (items_of entries) (asked_call (items_of entries) p asked)) (first_repeated w.beginning.requests (history w (items_of entries)).certified (asked_call (items_of entries) p asked))
 
-run_never_refused : (w : Setting) (entries : List Entry) (asked : Asked) (p : StoredProcedure) (refusal : CallRefusal) → run_answer w entries asked p ≡ Refused refusal → ⊥
-run_never_refused w entries asked p refusal =
+run_answer_is : (w : Setting) (entries : List Entry) (asked : Asked) (p : StoredProcedure) → IsOfRun (run_answer w entries asked p)
+run_answer_is w entries asked p =
     let log = items_of entries in
     let call = asked_call log p asked in
-    never_refused (reply_to w entries asked.request) call.snapshot (run_in w log call) (entry_bytes (CallEntry (executed w log call))) (run_in w log call).cancel_code (first_repeated w.beginning.requests (history w log).certified call) refusal
+    comes_of_run (reply_to w entries asked.request) call.snapshot (run_in w log call) (entry_bytes (CallEntry (executed w log call))) (run_in w log call).cancel_code (first_repeated w.beginning.requests (history w log).certified call)
 
 -- what is refused wasn't admitted
-refused_by : (w : Setting) (entries : List Entry) (asked : Asked) (answer : Result StoredProcedure CallRefusal) (refusal : CallRefusal) → answer_of_admission w entries asked answer ≡ Refused refusal → answer ≡ Err refusal
-refused_by w entries asked (Err r) refusal e = ap Err (refusal_is r refusal e)
+refused_by : (s : SiteSetting) (known : Sessions) (entries : List Entry) (asked : Asked) (answer : Result StoredProcedure CallRefusal) (refusal : CallRefusal) → answer_of_admission s known entries asked answer ≡ Refused refusal → answer ≡ Err refusal
+refused_by s known entries asked (Err r) refusal e = ap Err (refusal_is r refusal e)
   where
     refusal_is : (a b : CallRefusal) → as_answer a ≡ as_answer b → a ≡ b
     refusal_is a b e = cc
-refused_by w entries asked (Ok p) refusal e = absurd (run_never_refused w entries asked p refusal e)
+refused_by s known entries asked (Ok p) refusal e = by_cause (session_cause s.origin known asked.request) e
+  where
+    by_cause : (why : Option NothingCause) → in_session (run_answer s.setting entries asked p) why ≡ Refused refusal → Ok p ≡ Err refusal
+    by_cause (Some why) e = absurd cc
+    by_cause None e = absurd (subst IsOfRun e (run_answer_is s.setting entries asked p))
 
-module _ (w : Setting) (entries : List Entry) (asked : Asked) where
-  refused_for : (o : Option StoredProcedure) (refusal : CallRefusal) → answer_for w entries asked o ≡ Refused refusal → admission asked.args asked.request o ≡ Err refusal
-  refused_for o refusal e = refused_by w entries asked (admission asked.args asked.request o) refusal e
+module _ (s : SiteSetting) (known : Sessions) (entries : List Entry) (asked : Asked) where
+  refused_for : (o : Option StoredProcedure) (refusal : CallRefusal) → answer_for s known entries asked o ≡ Refused refusal → admission asked.args asked.request o ≡ Err refusal
+  refused_for o refusal e = refused_by s known entries asked (admission asked.args asked.request o) refusal e
+
+  -- something stands against its session's request
+  pub out_of_session : (o : Option StoredProcedure) → answer_for s known entries asked o ≡ OutOfSession → (why : NothingCause) × (session_cause s.origin known asked.request ≡ Some why)
+  out_of_session o = by_admission (admission asked.args asked.request o)
+    where
+      by_cause : (p : StoredProcedure) (why : Option NothingCause) → in_session (run_answer s.setting entries asked p) why ≡ OutOfSession → (found : NothingCause) × (why ≡ Some found)
+      by_cause p (Some why) e = (why, refl)
+      by_cause p None e = absurd (subst IsOfRun e (run_answer_is s.setting entries asked p))
+
+      by_admission : (answer : Result StoredProcedure CallRefusal) → answer_of_admission s known entries asked answer ≡ OutOfSession → (why : NothingCause) × (session_cause s.origin known asked.request ≡ Some why)
+      by_admission (Err refusal) e = absurd cc
+      by_admission (Ok p) e = by_cause p (session_cause s.origin known asked.request) e
 
   -- no procedure was found
-  pub unknown_by : (o : Option StoredProcedure) → answer_for w entries asked o ≡ Refused NoProcedure → o ≡ None
+  pub unknown_by : (o : Option StoredProcedure) → answer_for s known entries asked o ≡ Refused NoProcedure → o ≡ None
   unknown_by o e = is_unknown asked.args asked.request o (refused_for o NoProcedure e)
 
   -- a refusal asks only what is asked and the procedure
-  pub refused_again : (others : List Entry) (refusal : CallRefusal) (o : Option StoredProcedure) → answer_for w entries asked o ≡ Refused refusal → answer_for w others asked o ≡ Refused refusal
-  refused_again others refusal o e = ap (answer_of_admission w others asked) (refused_for o refusal e)
+  pub refused_again : (now : Sessions) (others : List Entry) (refusal : CallRefusal) (o : Option StoredProcedure) → answer_for s known entries asked o ≡ Refused refusal → answer_for s now others asked o ≡ Refused refusal
+  refused_again now others refusal o e = ap (answer_of_admission s now others asked) (refused_for o refusal e)
 
-  pub wrong_length : (p : StoredProcedure) → answer_for w entries asked (Some p) ≡ Refused ArgumentsLength → (p.args_len == length asked.args) ≡ false
+  pub wrong_length : (p : StoredProcedure) → answer_for s known entries asked (Some p) ≡ Refused ArgumentsLength → (p.args_len == length asked.args) ≡ false
   wrong_length p e =
       let (q, same, other) = is_unfit asked.args asked.request (Some p) (refused_for (Some p) ArgumentsLength e) in
       apart p.args_len (length asked.args) (λ f. other (f ∙ ap (λ (x : StoredProcedure). x.args_len) (some_is p q same)))
@@ -88,11 +111,11 @@ module _ (w : Setting) (entries : List Entry) (asked : Asked) where
       some_is : (a b : StoredProcedure) → Some a ≡ Some b → a ≡ b
       some_is a b e = cc
 
-  pub zero_in_request : (o : Option StoredProcedure) → answer_for w entries asked o ≡ Refused ZeroInRequest → has_zero asked.request ≡ true
+  pub zero_in_request : (o : Option StoredProcedure) → answer_for s known entries asked o ≡ Refused ZeroInRequest → has_zero asked.request ≡ true
   zero_in_request o e = let (p, found, fits, zero) = has_a_zero asked.args asked.request o (refused_for o ZeroInRequest e) in zero
 
   -- a procedure was found
-  pub some_procedure : (o : Option StoredProcedure) (refusal : CallRefusal) → refusal ≢ NoProcedure → answer_for w entries asked o ≡ Refused refusal → (p : StoredProcedure) × (o ≡ Some p)
+  pub some_procedure : (o : Option StoredProcedure) (refusal : CallRefusal) → refusal ≢ NoProcedure → answer_for s known entries asked o ≡ Refused refusal → (p : StoredProcedure) × (o ≡ Some p)
   some_procedure None refusal other e = absurd (other (refusal_is refusal (refused_for None refusal e)))
     where
       refusal_is : (r : CallRefusal) → as_error NoProcedure ≡ as_error r → r ≡ NoProcedure

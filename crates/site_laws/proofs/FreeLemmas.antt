@@ -9,14 +9,17 @@ use Rattle.log_model.specs.Entries.{Entry, CallEntry, item_of, items_of}
 use Rattle.log_model.specs.Verdicts.{WroteWhatWasRead}
 use Rattle.log_model.proofs.CallLemmas.{certified_is, count_history}
 use Rattle.log_model.proofs.GrowthLemmas.{run_grown}
+use Rattle.site_model.specs.declared.cause.NothingCause.{NothingCause}
 use Rattle.site_model.specs.declared.cause.NothingCause.TheVariants as cause
 use Rattle.site_model.specs.declared.outcome.EntryOutcome.TheVariants as outcome
-use Rattle.site_model.specs.Standing.{SiteSetting, Standing, StandsAs, IsDecided, IsNothing, executed, is_decided, standing}
+use Rattle.site_model.specs.Sessions.{Sessions, session_cause}
+use Rattle.site_model.specs.Standing.{SiteSetting, Standing, StandsAs, IsDecided, IsNothing, executed, is_decided, request_standing, standing}
 use Rattle.site_model.specs.Order.{entry_standing, next_entry, outcome_behind, with_bytes}
+use Rattle.site_model.proofs.StandingLemmas.{stands_as_call}
 use Rattle.site_laws.proofs.LogLemmas.{at_last, call_there, items_snoc}
 use Rattle.site_laws.proofs.OwnLemmas.{IsOwn}
 use Rattle.site_laws.proofs.RefusedLemmas.{ConflictMeans, past_is}
-use Rattle.site_laws.proofs.SettledLemmas.{by_head, wrote_there}
+use Rattle.site_laws.proofs.SettledLemmas.{wrote_there}
 
 -- the verdict on a call that isn't repeated, and isn't late
 new_verdict : (window : ℕ) (done : List DoneRequest) (past : List CertifiedItem) (call : Call) (looks : List Look) → first_repeated done past call ≡ None → nat_le (length past - call.snapshot) window ≡ true
@@ -25,7 +28,7 @@ unfolding verdict_after
 new_verdict window done past call looks none within =
     λ i. unless_repeated (none i) (cond (within i) (unless_conflict (first_position (conflicts looks) (call.snapshot + 1) (drop call.snapshot past))) verdict.Stale)
 
-module _ (s : SiteSetting) (entries later : List Entry) (bytes : List ℕ) (c : Call) (own : IsOwn s entries later bytes c) (new : first_repeated s.setting.beginning.requests (history s.setting (items_of (entries ++ later))).certified c ≡ None)
+module _ (s : SiteSetting) (now : Sessions) (entries later : List Entry) (bytes : List ℕ) (c : Call) (own : IsOwn s entries later bytes c) (inside : session_cause s.origin now c.request ≡ None) (new : first_repeated s.setting.beginning.requests (history s.setting (items_of (entries ++ later))).certified c ≡ None)
     (near : nat_le (length (items_of (entries ++ later)) - c.snapshot) s.setting.window ≡ true) where
   abbrev all : List Entry
   all = entries ++ later
@@ -34,10 +37,13 @@ module _ (s : SiteSetting) (entries later : List Entry) (bytes : List ℕ) (c : 
   here = items_of all
 
   abbrev whole : Log
-  whole = items_of (with_bytes s all bytes)
+  whole = items_of (with_bytes s now all bytes)
 
-  pub free_stands : standing s here bytes ≡ StandsAs (CallEntry (executed s.setting here c))
-  free_stands = by_head s here bytes c (executed s.setting (items_of entries) c).reply own.head ∙ λ i. tested (own.early i) (undecided i) (own.takes i) (own.is i)
+  pub free_stands : standing s now here bytes ≡ StandsAs (CallEntry (executed s.setting here c))
+  free_stands =
+      stands_as_call s now here bytes c (executed s.setting (items_of entries) c).reply own.head
+      ∙ ap (λ (why : Option NothingCause). cond (not (nat_le c.snapshot (length here))) (IsNothing cause.Snapshot) (request_standing s.setting here c bytes why)) inside
+      ∙ λ i. tested (own.early i) (undecided i) (own.takes i) (own.is i)
     where
       undecided : is_decided s.setting here c ≡ false
       undecided = λ i. is_some (new i) || not (near i)
@@ -49,9 +55,9 @@ module _ (s : SiteSetting) (entries later : List Entry) (bytes : List ℕ) (c : 
   abbrev IsApart : Type 0
   IsApart = (position : ℕ) → c.snapshot < position → WroteWhatWasRead s.setting here (run_in s.setting (items_of entries) c).looks position → ⊥
 
-  pub free_commits : ConflictMeans → IsLog whole → c.snapshot ≤ length here → IsApart → outcome_behind s all bytes ≡ outcome.Committed (run_in s.setting (items_of entries) c).reply
+  pub free_commits : ConflictMeans → IsLog whole → c.snapshot ≤ length here → IsApart → outcome_behind s now all bytes ≡ outcome.Committed (run_in s.setting (items_of entries) c).reply
   free_commits means is_log early apart =
-      at_last s all bytes verdict.Commit (known ∙ by_conflict (first_position (conflicts looks) (c.snapshot + 1) (drop c.snapshot past)) known) (StandsAs (CallEntry (executed s.setting here c))) free_stands
+      at_last s now all bytes verdict.Commit (known ∙ by_conflict (first_position (conflicts looks) (c.snapshot + 1) (drop c.snapshot past)) known) (StandsAs (CallEntry (executed s.setting here c))) free_stands
       ∙ ap (λ (r : Run). outcome.Committed r.reply) own.run
     where
       looks : List Look
@@ -64,7 +70,7 @@ module _ (s : SiteSetting) (entries later : List Entry) (bytes : List ℕ) (c : 
       count = length-map all item_of
 
       as_one_more : whole ≡ here ++ CallItem c ∷ []
-      as_one_more = items_snoc all (next_entry s all bytes) ∙ ap (λ (st : Standing). here ++ item_of (entry_standing s.setting here st) ∷ []) free_stands
+      as_one_more = items_snoc all (next_entry s now all bytes) ∙ ap (λ (st : Standing). here ++ item_of (entry_standing s.setting here st) ∷ []) free_stands
 
       past_there : take (length all) (history s.setting whole).certified ≡ past
       past_there = ap (λ (n : ℕ). take n (history s.setting whole).certified) (sym count) ∙ ap (λ (l : Log). take (length here) (history s.setting l).certified) as_one_more ∙ past_is s.setting here (CallItem c ∷ [])
@@ -73,7 +79,7 @@ module _ (s : SiteSetting) (entries later : List Entry) (bytes : List ℕ) (c : 
       near_past = ap (λ (n : ℕ). nat_le (n - c.snapshot) s.setting.window) (count_history s.setting here) ∙ near
 
       there : slice_get whole (length all) ≡ Some (CallItem c)
-      there = call_there s all bytes (executed s.setting here c) free_stands
+      there = call_there s now all bytes (executed s.setting here c) free_stands
 
       known : verdict_of s.setting whole (suc (length all)) ≡ Some (unless_conflict (first_position (conflicts looks) (c.snapshot + 1) (drop c.snapshot past)))
       known =

@@ -40,6 +40,7 @@ module _ (s : SiteSetting) (told : Told) (added : Added) (others : Others) where
       by_outcome outcome.Stale is = left (λ n e. absurd (let x = sym is ∙ e in cc))
       by_outcome (outcome.Repeated n reply) is = left (λ n e. absurd (let x = sym is ∙ e in cc))
       by_outcome (outcome.Taken i) is = left (λ n e. absurd (let x = sym is ∙ e in cc))
+      by_outcome (outcome.Session session) is = left (λ n e. absurd (let x = sym is ∙ e in cc))
       by_outcome (outcome.Nothing c) is = left (λ n e. absurd (let x = sym is ∙ e in cc))
 
   abbrev GoesOn : Catalogue → Catalogue → Type 0

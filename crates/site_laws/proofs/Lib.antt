@@ -2,6 +2,7 @@ pub mod LogLemmas
 mod SettledLemmas
 mod RefusedLemmas
 mod OwnLemmas
+mod SessionLemmas
 mod DecodingLemmas
 mod OutcomeLemmas
 mod OrderFitLemmas

@@ -12,8 +12,9 @@ use Rattle.log_model.specs.Entries.{Entry, AdditionEntry, item_of, items_of, IsC
 use Rattle.program_checks.specs.ProgramCheck.{Passed}
 use Rattle.program_checks.specs.Check.{check_of}
 use Rattle.site_model.specs.Fit.{AreFitEntries}
+use Rattle.site_model.specs.Sessions.{Sessions}
 use Rattle.site_model.specs.Standing.{SiteSetting, StandsAs, standing}
-use Rattle.site_model.specs.Order.{Order, next_entry, order_entries, with_bytes}
+use Rattle.site_model.specs.Order.{Followed, Order, before_order, followed, followed_by, next_entry, order_entries, with_bytes}
 use Rattle.site_laws.specs.Added.{NamesProcedure}
 use Rattle.site_laws.specs.Orders.{IsBytes, IsOfBytes, IsSafeSetting}
 use Rattle.site_laws.proofs.DecodingLemmas.{decoded_is_program}
@@ -26,12 +27,12 @@ OneMoreIsFit = (w : Setting) (entries : List Entry) (e : Entry) → AreFitEntrie
     → IsCarried w (items_of entries) e → AreFitEntries w (entries ++ e ∷ [])
 
 abbrev pub AreCarried : Type 0
-AreCarried = (s : SiteSetting) (entries : List Entry) (bytes : List ℕ) → IsCarried s.setting (items_of entries) (next_entry s entries bytes)
+AreCarried = (s : SiteSetting) (known : Sessions) (entries : List Entry) (bytes : List ℕ) → IsCarried s.setting (items_of entries) (next_entry s known entries bytes)
 
 abbrev pub NextIsFit : Type 0
-NextIsFit = (s : SiteSetting) (entries : List Entry) (bytes : List ℕ) → All (λ b. b < 256) bytes
-    → ((p : StoredProcedure) → standing s (items_of entries) bytes ≡ StandsAs (AdditionEntry p) → IsSafe s.setting.tables p)
-    → FitsLog s.setting (items_of entries) (item_of (next_entry s entries bytes))
+NextIsFit = (s : SiteSetting) (known : Sessions) (entries : List Entry) (bytes : List ℕ) → All (λ b. b < 256) bytes
+    → ((p : StoredProcedure) → standing s known (items_of entries) bytes ≡ StandsAs (AdditionEntry p) → IsSafe s.setting.tables p)
+    → FitsLog s.setting (items_of entries) (item_of (next_entry s known entries bytes))
 
 abbrev pub ChecksPass : Type 0
 ChecksPass = (tables : Tables) (args_len : ℕ) (bytes : List ℕ) (program : Program) → (check_of tables args_len bytes ≡ Passed program)
@@ -50,17 +51,17 @@ named_are_safe s bytes p passed safe tables names =
     (safe s.setting.tables (record { name = n.name; number = n.number; program = names.program; args_len = n.args_len }) (decoded_is_program n.bytes names.program decoded) tables accepted)
 
 module _ (one_more : OneMoreIsFit) (placed : ArePlaced) (carried : AreCarried) (fits : NextIsFit) (passed : ChecksPass) (safe : AcceptedAreSafe) (s : SiteSetting) (is : IsSafeSetting s.setting) where
-  fit_next : (entries : List Entry) (bytes : List ℕ) → IsBytes bytes → AreFitEntries s.setting entries → AreFitEntries s.setting (with_bytes s entries bytes)
-  fit_next entries bytes are fit =
-      one_more s.setting entries (next_entry s entries bytes) fit (placed s entries bytes)
-      (fits s entries bytes are (λ p stands. named_are_safe s bytes p passed safe is.tables (names_by s (items_of entries) bytes p stands)))
-      (carried s entries bytes)
+  fit_next : (known : Sessions) (entries : List Entry) (bytes : List ℕ) → IsBytes bytes → AreFitEntries s.setting entries → AreFitEntries s.setting (with_bytes s known entries bytes)
+  fit_next known entries bytes are fit =
+      one_more s.setting entries (next_entry s known entries bytes) fit (placed s known entries bytes)
+      (fits s known entries bytes are (λ p stands. named_are_safe s bytes p passed safe is.tables (names_by s known (items_of entries) bytes p stands)))
+      (carried s known entries bytes)
 
-  fit_from : (entries : List Entry) (order : Order) → IsOfBytes order → AreFitEntries s.setting entries → AreFitEntries s.setting (fold (with_bytes s) entries order)
-  fit_from entries [] are fit = fit
-  fit_from entries (bytes ∷ order) are fit =
-      fit_from (with_bytes s entries bytes) order (All-tail IsBytes bytes order are) (fit_next entries bytes (All-head IsBytes bytes order are) fit)
+  fit_from : (f : Followed) (order : Order) → IsOfBytes order → AreFitEntries s.setting f.entries → AreFitEntries s.setting (fold (followed_by s) f order).entries
+  fit_from f [] are fit = fit
+  fit_from f (bytes ∷ order) are fit =
+      fit_from (followed_by s f bytes) order (All-tail IsBytes bytes order are) (fit_next f.sessions f.entries bytes (All-head IsBytes bytes order are) fit)
 
   pub order_is_fit : (order : Order) → IsOfBytes order → AreFitEntries s.setting (order_entries s order)
-  unfolding order_entries
-  order_is_fit order are = fit_from [] order are (record { begins = is.begins; log = tt; items = tt; runs = tt })
+  unfolding followed
+  order_is_fit order are = fit_from (before_order s) order are (record { begins = is.begins; log = tt; items = tt; runs = tt })

@@ -1,10 +1,10 @@
--- What stands where a byte string commits, adds a procedure, or is nothing.
-use Rattle.std.proofs.Common.{◌≡◌, ℕ, suc, ◌+◌, Bool, true, false, ◌&&◌, nat_le, cond, List, length, Option, Some, None, refl, sym, ap, ◌∙◌, arith}
+-- What stands where a byte string commits, adds a procedure, or changes nothing.
+use Rattle.std.proofs.Common.{◌≡◌, ℕ, suc, ◌+◌, Bool, true, false, ◌&&◌, nat_le, cond, List, length, Option, Some, None, refl, sym, ap, subst, ◌∙◌, arith}
 use Rattle.std.proofs.lemmas.Bool.Decides.{nat_tests}
 use Rattle.schema.specs.declared.limits.TheConstants.{MAX_ARGUMENTS}
 use Rattle.log_model.specs.declared.verdict.Verdict.{Verdict}
 use Rattle.log_model.specs.declared.verdict.Verdict.TheVariants as verdict
-use Rattle.log_model.specs.Log.{StoredProcedure, Call, Log, verdict_of}
+use Rattle.log_model.specs.Log.{StoredProcedure, Call, Log, procedures_after, verdict_of}
 use Rattle.log_model.specs.Entries.{Entry, CallEntry, AdditionEntry, items_of}
 use Rattle.log_model.specs.Name.{is_name}
 use Rattle.program_checks.specs.ProgramCheck.{ProgramCheck, Passed, Failed}
@@ -14,14 +14,15 @@ use Rattle.site_model.specs.declared.cause.NothingCause.{NothingCause}
 use Rattle.site_model.specs.declared.cause.NothingCause.TheVariants as cause
 use Rattle.site_model.specs.declared.outcome.EntryOutcome.{EntryOutcome}
 use Rattle.site_model.specs.declared.outcome.EntryOutcome.TheVariants as outcome
-use Rattle.site_model.specs.Standing.{SiteSetting, Standing, StandsAs, IsDecided, IsNothing, addition_standing, checked_standing, executed, standing}
-use Rattle.site_model.specs.Order.{replies_to, committed_outcome, outcome_behind, outcome_by, outcome_of, with_bytes}
+use Rattle.site_model.specs.Sessions.{Sessions, session_cause}
+use Rattle.site_model.specs.Standing.{SiteSetting, Standing, StandsAs, IsDecided, OpensSession, IsNothing, addition_standing, checked_standing, executed, standing}
+use Rattle.site_model.specs.Order.{replies_to, committed_outcome, entry_of_none, entry_standing, next_entry, outcome_behind, outcome_by, outcome_of, with_bytes}
 use Rattle.site_model.specs.Answer.{stored_as}
-use Rattle.site_model.proofs.StandingLemmas.{addition_cases, call_cases, stands_as_addition, standing_cases}
+use Rattle.site_model.proofs.StandingLemmas.{addition_cases, call_cases, stands_as_addition, stands_as_call, standing_cases}
 use Rattle.site_laws.specs.Added.{NamesProcedure}
+use Rattle.site_laws.specs.Nothing.{ChangesNothing}
 use Rattle.site_laws.proofs.LogLemmas.{HaveVerdicts, at_last, last_verdict}
-use Rattle.site_laws.proofs.SettledLemmas.{by_head, stands_by}
-use Rattle.site_laws.proofs.OwnLemmas.{never_nothing}
+use Rattle.site_laws.proofs.SettledLemmas.{stands_by}
 
 -- ---- an addition
 
@@ -49,21 +50,21 @@ named_by s bytes n p head =
       is = added_same (stored_as n program) p e;
     }
 
-pub names_by : (s : SiteSetting) (log : Log) (bytes : List ℕ) (p : StoredProcedure) → standing s log bytes ≡ StandsAs (AdditionEntry p) → NamesProcedure s bytes p
-names_by s log bytes p = standing_cases Names s log bytes (λ c e. absurd cc)
-    (λ call reply head. call_cases Names s.setting log call bytes (λ c e. absurd cc) (λ _ _ e. absurd cc) (λ _ e. absurd cc))
+pub names_by : (s : SiteSetting) (known : Sessions) (log : Log) (bytes : List ℕ) (p : StoredProcedure) → standing s known log bytes ≡ StandsAs (AdditionEntry p) → NamesProcedure s bytes p
+names_by s known log bytes p = standing_cases Names s known log bytes (λ c e. absurd cc) (λ session _ e. absurd cc)
+    (λ call reply head. call_cases Names s known log call bytes (λ c e. absurd cc) (λ _ _ _ e. absurd cc) (λ _ e. absurd cc))
     (λ n head e. named_by s bytes n p head e)
   where
     Names : Standing → Type 0
     Names st = st ≡ StandsAs (AdditionEntry p) → NamesProcedure s bytes p
 
-pub stands_named : (s : SiteSetting) (log : Log) (bytes : List ℕ) (p : StoredProcedure) → NamesProcedure s bytes p → standing s log bytes ≡ StandsAs (AdditionEntry p)
-stands_named s log bytes p names =
+pub stands_named : (s : SiteSetting) (known : Sessions) (log : Log) (bytes : List ℕ) (p : StoredProcedure) → NamesProcedure s bytes p → standing s known log bytes ≡ StandsAs (AdditionEntry p)
+stands_named s known log bytes p names =
     let n = names.named in
     let few = names.arguments in
     let within : nat_le n.args_len MAX_ARGUMENTS ≡ true = grind (arith, nat_tests) in
     let tests : (s.takes_additions && (is_name n.name && nat_le n.args_len MAX_ARGUMENTS)) ≡ true = λ i. names.taken i && (names.name i && within i) in
-    stands_as_addition s log bytes n names.head
+    stands_as_addition s known log bytes n names.head
     ∙ ap (λ (b : Bool). cond b (checked_standing n (check_of s.setting.tables n.args_len n.bytes)) (IsNothing cause.Addition)) tests
     ∙ ap (checked_standing n) names.accepted
     ∙ ap (λ (q : StoredProcedure). StandsAs (AdditionEntry q)) (sym names.is)
@@ -71,9 +72,15 @@ stands_named s log bytes p names =
 -- ---- by what is said
 
 -- the last call commits
-pub record CommitsAs (s : SiteSetting) (entries : List Entry) (bytes : List ℕ) (call : Call) (told : ℕ) : Type 0 where
+pub record CommitsAs (s : SiteSetting) (known : Sessions) (entries : List Entry) (bytes : List ℕ) (call : Call) (told : ℕ) : Type 0 where
   pub head : head_of bytes ≡ Some (CallHead call told)
-  pub stands : standing s (items_of entries) bytes ≡ StandsAs (CallEntry (executed s.setting (items_of entries) call))
+  pub stands : standing s known (items_of entries) bytes ≡ StandsAs (CallEntry (executed s.setting (items_of entries) call))
+  pub in_session : session_cause s.origin known call.request ≡ None
+
+-- it takes its position in the log as a call of no procedure without a request
+abbrev pub IsIdle : SiteSetting → Sessions → List Entry → List ℕ → Type 0
+IsIdle s known entries bytes =
+    next_entry s known entries bytes ≡ entry_of_none (procedures_after s.setting (items_of entries) (length (items_of entries))) (length (items_of entries)) None
 
 never_committed : (replies : ℕ → ℕ) (number : ℕ) (v : Option Verdict) (reply : ℕ) → outcome_by replies (outcome.Added number) v ≡ outcome.Committed reply → ⊥
 never_committed replies number None reply e = absurd cc
@@ -100,15 +107,15 @@ adds replies told number verdict.Stale e = absurd cc
 adds replies told number (verdict.Repeated n) e = absurd cc
 adds replies told number (verdict.Taken i) e = absurd cc
 
-module _ (s : SiteSetting) (entries : List Entry) (bytes : List ℕ) where
+module _ (s : SiteSetting) (known : Sessions) (entries : List Entry) (bytes : List ℕ) where
   abbrev all : List Entry
-  all = with_bytes s entries bytes
+  all = with_bytes s known entries bytes
 
-  pub committed_from : (reply : ℕ) → outcome_behind s entries bytes ≡ outcome.Committed reply → (call : Call) × (told : ℕ) × CommitsAs s entries bytes call told
-  committed_from reply commits = standing_cases Commits s log bytes (λ c e. absurd cc)
+  pub committed_from : (reply : ℕ) → outcome_behind s known entries bytes ≡ outcome.Committed reply → (call : Call) × (told : ℕ) × CommitsAs s known entries bytes call told
+  committed_from reply commits = standing_cases Commits s known log bytes (λ c e. absurd cc) (λ session _ e. absurd cc)
       (λ call told head e.
-      let stands = stands_by s.setting log call bytes (replies_to s all bytes) v reply e in
-      (call, told, record { head = head; stands = by_head s log bytes call told head ∙ stands.stands }))
+      let stands = stands_by s known log call bytes (replies_to s all bytes) v reply e in
+      (call, told, record { head = head; stands = stands_as_call s known log bytes call told head ∙ stands.stands; in_session = stands.in_session }))
       (λ n head. addition_cases Commits s n (λ c e. absurd cc) (λ q _ e. absurd (never_committed (replies_to s all bytes) q.number v reply e)))
       commits
     where
@@ -119,41 +126,50 @@ module _ (s : SiteSetting) (entries : List Entry) (bytes : List ℕ) where
       v = verdict_of s.setting (items_of all) (length entries + 1)
 
       Commits : Standing → Type 0
-      Commits st = outcome_of (replies_to s all bytes) st v ≡ outcome.Committed reply → (call : Call) × (told : ℕ) × CommitsAs s entries bytes call told
+      Commits st = outcome_of (replies_to s all bytes) st v ≡ outcome.Committed reply → (call : Call) × (told : ℕ) × CommitsAs s known entries bytes call told
 
   -- a procedure that is added
-  pub added_from : HaveVerdicts → (number : ℕ) → outcome_behind s entries bytes ≡ outcome.Added number
-      → (p : StoredProcedure) × (standing s (items_of entries) bytes ≡ StandsAs (AdditionEntry p)) × (verdict_of s.setting (items_of all) (suc (length entries)) ≡ Some verdict.Commit) × (p.number ≡ number)
+  pub added_from : HaveVerdicts → (number : ℕ) → outcome_behind s known entries bytes ≡ outcome.Added number
+      → (p : StoredProcedure) × (standing s known (items_of entries) bytes ≡ StandsAs (AdditionEntry p)) × (verdict_of s.setting (items_of all) (suc (length entries)) ≡ Some verdict.Commit) × (p.number ≡ number)
   added_from verdicts number told =
-      let (v, at) = last_verdict s entries bytes verdicts in
-      by_standing v at (standing s (items_of entries) bytes) refl
+      let (v, at) = last_verdict s known entries bytes verdicts in
+      by_standing v at (standing s known (items_of entries) bytes) refl
     where
-      by_standing : (v : Verdict) → verdict_of s.setting (items_of all) (suc (length entries)) ≡ Some v → (st : Standing) → standing s (items_of entries) bytes ≡ st
-          → (p : StoredProcedure) × (standing s (items_of entries) bytes ≡ StandsAs (AdditionEntry p)) × (verdict_of s.setting (items_of all) (suc (length entries)) ≡ Some verdict.Commit) × (p.number ≡ number)
-      by_standing v at (StandsAs (CallEntry e)) is = absurd (never_added (replies_to s all bytes) (outcome.Committed e.reply) number v (λ x. absurd cc) (sym (at_last s entries bytes v at (StandsAs (CallEntry e)) is) ∙ told))
+      by_standing : (v : Verdict) → verdict_of s.setting (items_of all) (suc (length entries)) ≡ Some v → (st : Standing) → standing s known (items_of entries) bytes ≡ st
+          → (p : StoredProcedure) × (standing s known (items_of entries) bytes ≡ StandsAs (AdditionEntry p)) × (verdict_of s.setting (items_of all) (suc (length entries)) ≡ Some verdict.Commit) × (p.number ≡ number)
+      by_standing v at (StandsAs (CallEntry e)) is = absurd (never_added (replies_to s all bytes) (outcome.Committed e.reply) number v (λ x. absurd cc) (sym (at_last s known entries bytes v at (StandsAs (CallEntry e)) is) ∙ told))
       by_standing v at (StandsAs (AdditionEntry p)) is =
-          let (commit, same) = adds (replies_to s all bytes) p.number number v (sym (at_last s entries bytes v at (StandsAs (AdditionEntry p)) is) ∙ told) in
+          let (commit, same) = adds (replies_to s all bytes) p.number number v (sym (at_last s known entries bytes v at (StandsAs (AdditionEntry p)) is) ∙ told) in
           (p, is, at ∙ ap Some commit, same)
-      by_standing v at (IsDecided call) is = absurd (never_added (replies_to s all bytes) outcome.Stale number v (λ x. absurd cc) (sym (at_last s entries bytes v at (IsDecided call) is) ∙ told))
-      by_standing v at (IsNothing c) is = absurd (nothing_else c (sym (at_last s entries bytes v at (IsNothing c) is) ∙ told))
+      by_standing v at (IsDecided call) is = absurd (never_added (replies_to s all bytes) outcome.Stale number v (λ x. absurd cc) (sym (at_last s known entries bytes v at (IsDecided call) is) ∙ told))
+      by_standing v at (OpensSession session) is = absurd (opened_else session (sym (at_last s known entries bytes v at (OpensSession session) is) ∙ told))
+        where
+          opened_else : (session : ℕ) → outcome.Session session ≡ outcome.Added number → ⊥
+          opened_else session e = absurd cc
+      by_standing v at (IsNothing c) is = absurd (nothing_else c (sym (at_last s known entries bytes v at (IsNothing c) is) ∙ told))
         where
           nothing_else : (c : NothingCause) → outcome.Nothing c ≡ outcome.Added number → ⊥
           nothing_else c e = absurd cc
 
-  -- what is nothing
-  pub nothing_from : HaveVerdicts → (why : NothingCause) → outcome_behind s entries bytes ≡ outcome.Nothing why → standing s (items_of entries) bytes ≡ IsNothing why
-  nothing_from verdicts why told =
-      let (v, at) = last_verdict s entries bytes verdicts in
-      by_standing v at (standing s (items_of entries) bytes) refl
+  -- what changes nothing is a call of no procedure in the log
+  pub idle_from : HaveVerdicts → ChangesNothing (outcome_behind s known entries bytes) → IsIdle s known entries bytes
+  idle_from verdicts told =
+      let (v, at) = last_verdict s known entries bytes verdicts in
+      by_standing v at (standing s known (items_of entries) bytes) refl
     where
-      committed_is_something : (e : Entry) → committed_outcome e ≡ outcome.Nothing why → ⊥
-      committed_is_something (CallEntry e) x = absurd cc
-      committed_is_something (AdditionEntry p) x = absurd cc
+      never_idle : (c : EntryOutcome) (v : Verdict) → (ChangesNothing c → ⊥) → ChangesNothing (outcome_by (replies_to s all bytes) c (Some v)) → ⊥
+      never_idle c verdict.Commit isnt e = isnt e
+      never_idle c (verdict.Conflict n) isnt e = e
+      never_idle c verdict.Stale isnt e = e
+      never_idle c (verdict.Repeated n) isnt e = e
+      never_idle c (verdict.Taken i) isnt e = e
 
-      same_cause : (c : NothingCause) → outcome.Nothing c ≡ outcome.Nothing why → IsNothing c ≡ IsNothing why
-      same_cause c e = cc
+      committed_is_not : (e : Entry) → ChangesNothing (committed_outcome e) → ⊥
+      committed_is_not (CallEntry e) x = x
+      committed_is_not (AdditionEntry p) x = x
 
-      by_standing : (v : Verdict) → verdict_of s.setting (items_of all) (suc (length entries)) ≡ Some v → (st : Standing) → standing s (items_of entries) bytes ≡ st → standing s (items_of entries) bytes ≡ IsNothing why
-      by_standing v at (StandsAs e) is = absurd (never_nothing (replies_to s all bytes) (committed_outcome e) why (Some v) (committed_is_something e) (sym (at_last s entries bytes v at (StandsAs e) is) ∙ told))
-      by_standing v at (IsDecided call) is = absurd (never_nothing (replies_to s all bytes) outcome.Stale why (Some v) (λ x. absurd cc) (sym (at_last s entries bytes v at (IsDecided call) is) ∙ told))
-      by_standing v at (IsNothing c) is = is ∙ same_cause c (sym (at_last s entries bytes v at (IsNothing c) is) ∙ told)
+      by_standing : (v : Verdict) → verdict_of s.setting (items_of all) (suc (length entries)) ≡ Some v → (st : Standing) → standing s known (items_of entries) bytes ≡ st → IsIdle s known entries bytes
+      by_standing v at (StandsAs e) is = absurd (never_idle (committed_outcome e) v (committed_is_not e) (subst ChangesNothing (at_last s known entries bytes v at (StandsAs e) is) told))
+      by_standing v at (IsDecided call) is = absurd (never_idle outcome.Stale v (λ x. x) (subst ChangesNothing (at_last s known entries bytes v at (IsDecided call) is) told))
+      by_standing v at (OpensSession session) is = ap (entry_standing s.setting (items_of entries)) is
+      by_standing v at (IsNothing c) is = ap (entry_standing s.setting (items_of entries)) is

@@ -1,10 +1,10 @@
--- What a site gave to be ordered stands, or is decided.
-use Rattle.std.proofs.Common.{◌≡◌, ℕ, ◌+◌, ◌==◌, ◌≤◌, Bool, true, false, not, ◌&&◌, nat_le, cond, is_some, List, ◌++◌, length, Option, Some, None, refl, sym, ap, ◌∙◌, arith}
+-- What a site gave to be ordered stands, is decided, or is superseded.
+use Rattle.std.proofs.Common.{◌≡◌, ℕ, ◌+◌, ◌==◌, ◌≤◌, Bool, true, false, not, ◌&&◌, nat_le, cond, is_some, List, ◌++◌, length, Option, Some, None, refl, sym, ap, subst, ◌∙◌, arith}
 use Rattle.std.specs.FinMap.{len}
 use Rattle.std.specs.Str.{bytes_eq}
 use Rattle.std.proofs.lemmas.Bool.Decides.{nat_tests}
 use Rattle.std.proofs.lemmas.Slice.Eq.{bytes_eq-Decides}
-use Rattle.std.proofs.lemmas.List.{length-append, map-append}
+use Rattle.std.proofs.lemmas.List.{length-append, length-map, map-append}
 use Rattle.bpf_semantics.specs.Run.{Run}
 use Rattle.log_model.specs.declared.verdict.Verdict.{Verdict}
 use Rattle.log_model.specs.declared.verdict.Verdict.TheVariants as verdict
@@ -18,7 +18,7 @@ use Rattle.schema.specs.declared.limits.TheConstants.{MAX_ARGUMENTS}
 use Rattle.log_model.specs.Name.{is_name}
 use Rattle.program_checks.specs.ProgramCheck.{Passed}
 use Rattle.program_checks.specs.Check.{check_of}
-use Rattle.log_entry.specs.Fit.{named_procedure}
+use Rattle.log_entry.specs.Fit.{CallFitsFields, named_procedure}
 use Rattle.log_entry.specs.Head.{NamedProcedure, AdditionHead, CallHead, head_of}
 use Rattle.log_model.specs.OpenRequest.{has_zero}
 use Rattle.site_model.specs.declared.answer.AdditionAnswer.TheVariants as addition
@@ -29,28 +29,35 @@ use Rattle.site_model.specs.declared.outcome.EntryOutcome.{EntryOutcome}
 use Rattle.site_model.specs.declared.outcome.EntryOutcome.TheVariants as outcome
 use Rattle.site_model.specs.declared.answer.CallAnswer.{CallAnswer}
 use Rattle.site_model.specs.declared.answer.CallAnswer.TheVariants as call
-use Rattle.site_model.specs.Standing.{SiteSetting, Standing, StandsAs, IsDecided, IsNothing, call_standing, executed, is_decided, is_true, takes_arguments, writes_something, addition_standing, checked_standing, standing, standing_of_head}
-use Rattle.site_model.specs.Order.{reply_to, replies_to, outcome_behind, outcome_by, outcome_of, with_bytes}
-use Rattle.site_model.specs.Answer.{Asked, answer_for, asked_call, unless_cancelled, unless_repeated, addition_answer, answer_of_check, stored_as}
-use Rattle.site_laws.proofs.SettledLemmas.{by_admission, by_head}
+use Rattle.site_model.specs.Sessions.{Sessions, session_cause}
+use Rattle.site_model.specs.Standing.{SiteSetting, Standing, StandsAs, IsDecided, IsNothing, call_standing, executed, is_decided, is_true, request_standing, takes_arguments, writes_something, addition_standing, checked_standing}
+use Rattle.site_model.specs.Order.{reply_to, replies_to, Order, order_entries, order_log, outcome_behind, outcome_by, outcome_of, sessions_after, with_bytes}
+use Rattle.site_model.specs.Answer.{Asked, answer_for, asked_call, call_answer, in_session, unless_cancelled, unless_repeated, addition_answer, answer_of_check, stored_as}
+use Rattle.site_model.specs.Own.{IsAskedOf}
+use Rattle.site_model.proofs.StandingLemmas.{stands_as_addition, stands_as_call}
+use Rattle.site_laws.proofs.SettledLemmas.{by_admission, settled_answer}
 
 -- ---- what was submitted
 
--- a run that is to be ordered wrote something, and these are its bytes
-pub record Ordered (w : Setting) (log : Log) (p : StoredProcedure) (asked : Asked) (bytes : List ℕ) : Type 0 where
+-- nothing is against what is to be ordered for its session's sake, its run wrote something, and these are its bytes
+pub record Ordered (s : SiteSetting) (known : Sessions) (log : Log) (p : StoredProcedure) (asked : Asked) (bytes : List ℕ) : Type 0 where
+  pub in_session : session_cause s.origin known asked.request ≡ None
   pub takes : (p.args_len == length asked.args) ≡ true
   pub whole : has_zero asked.request ≡ false
-  pub writes : writes_something (run_in w log (asked_call log p asked)) ≡ true
-  pub are : entry_bytes (CallEntry (executed w log (asked_call log p asked))) ≡ bytes
+  pub writes : writes_something (run_in s.setting log (asked_call log p asked)) ≡ true
+  pub are : entry_bytes (CallEntry (executed s.setting log (asked_call log p asked))) ≡ bytes
 
 same_bytes : (a b : List ℕ) → call.Submitted a ≡ call.Submitted b → a ≡ b
 same_bytes a b e = cc
 
-pub ordered_by : (w : Setting) (entries : List Entry) (asked : Asked) (p : StoredProcedure) (bytes : List ℕ) → answer_for w entries asked (Some p) ≡ call.Submitted bytes → Ordered w (items_of entries) p asked bytes
-ordered_by w entries asked p bytes =
-    by_admission w entries asked p (λ (answer : CallAnswer (List ℕ)). answer ≡ call.Submitted bytes → Ordered w log p asked bytes) (λ refusal e. absurd cc)
-    (λ fits whole. by_run (as_long p.args_len (length asked.args) fits) whole (first_repeated w.beginning.requests (history w log).certified (asked_call log p asked)) run.cancel_code refl (len run.writes == 0) refl)
+pub ordered_by : (s : SiteSetting) (known : Sessions) (entries : List Entry) (asked : Asked) (p : StoredProcedure) (bytes : List ℕ) → answer_for s known entries asked (Some p) ≡ call.Submitted bytes → Ordered s known (items_of entries) p asked bytes
+ordered_by s known entries asked p bytes =
+    by_admission s known entries asked p (λ (answer : CallAnswer (List ℕ)). answer ≡ call.Submitted bytes → Ordered s known log p asked bytes) (λ refusal e. absurd cc)
+    (λ fits whole. by_cause (as_long p.args_len (length asked.args) fits) whole (session_cause s.origin known asked.request) refl)
   where
+    w : Setting
+    w = s.setting
+
     log : Log
     log = items_of entries
 
@@ -60,21 +67,28 @@ ordered_by w entries asked p bytes =
     own : List ℕ
     own = entry_bytes (CallEntry (executed w log (asked_call log p asked)))
 
-    by_run : (p.args_len == length asked.args) ≡ true → has_zero asked.request ≡ false → (o code : Option ℕ) → run.cancel_code ≡ code → (none : Bool) → (len run.writes == 0) ≡ none
-        → unless_repeated (reply_to w entries asked.request) (unless_cancelled (length log) run own code) o ≡ call.Submitted bytes → Ordered w log p asked bytes
-    by_run ea eb (Some position) code ec none en e = absurd cc
-    by_run ea eb None (Some code) ec none en e = absurd cc
-    by_run ea eb None None ec true en e =
+    by_run : session_cause s.origin known asked.request ≡ None → (p.args_len == length asked.args) ≡ true → has_zero asked.request ≡ false → (o code : Option ℕ) → run.cancel_code ≡ code → (none : Bool) → (len run.writes == 0) ≡ none
+        → unless_repeated (reply_to w entries asked.request) (unless_cancelled (length log) run own code) o ≡ call.Submitted bytes → Ordered s known log p asked bytes
+    by_run inside ea eb (Some position) code ec none en e = absurd cc
+    by_run inside ea eb None (Some code) ec none en e = absurd cc
+    by_run inside ea eb None None ec true en e =
         absurd (not_read (length log) run.reply bytes (sym (ap (λ (b : Bool). cond b (call.Read (length log) run.reply) (call.Submitted own)) en) ∙ e))
       where
         not_read : (position reply : ℕ) (xs : List ℕ) → call.Read position reply ≡ call.Submitted xs → ⊥
         not_read position reply xs f = absurd cc
-    by_run ea eb None None ec false en e = record {
+    by_run inside ea eb None None ec false en e = record {
+      in_session = inside;
       takes = ea;
       whole = eb;
       writes = λ i. not (is_some (ec i)) && not (en i);
       are = same_bytes own bytes (sym (ap (λ (b : Bool). cond b (call.Read (length log) run.reply) (call.Submitted own)) en) ∙ e);
     }
+
+    by_cause : (p.args_len == length asked.args) ≡ true → has_zero asked.request ≡ false → (why : Option NothingCause) → session_cause s.origin known asked.request ≡ why
+        → in_session (unless_repeated (reply_to w entries asked.request) (unless_cancelled (length log) run own run.cancel_code) (first_repeated w.beginning.requests (history w log).certified (asked_call log p asked))) why ≡ call.Submitted bytes
+        → Ordered s known log p asked bytes
+    by_cause ea eb (Some why) is e = absurd cc
+    by_cause ea eb None is e = by_run is ea eb (first_repeated w.beginning.requests (history w log).certified (asked_call log p asked)) run.cancel_code refl (len run.writes == 0) refl e
 
     as_long : (m n : ℕ) → n ≡ m → (m == n) ≡ true
     as_long m n e = grind (arith, nat_tests)
@@ -95,18 +109,37 @@ stale_is_something cause e = absurd cc
 reply_is_something : (reply : ℕ) (cause : NothingCause) → outcome.Committed reply ≡ outcome.Nothing cause → ⊥
 reply_is_something reply cause e = absurd cc
 
--- a call that passes the tests isn't nothing
-not_nothing : (w : Setting) (log : Log) (c : Call) (bytes : List ℕ) (replies : ℕ → ℕ) (v : Option Verdict) (why : NothingCause) → nat_le c.snapshot (length log) ≡ true → takes_arguments (procedure_of w log c) c.args ≡ true
-    → is_true w log c bytes ≡ true → outcome_of replies (call_standing w log c bytes) v ≡ outcome.Nothing why → ⊥
-not_nothing w log c bytes replies v why early takes is told =
-    by_decided (is_decided w log c) (sym (ap (λ (st : Standing). outcome_of replies st v) (λ i. tested (early i) (is_decided w log c) (takes i) (is i))) ∙ told)
-  where
-    tested : Bool → Bool → Bool → Bool → Standing
-    tested a b t u = cond (not a) (IsNothing cause.Snapshot) (cond b (IsDecided c) (cond (not t) (IsNothing cause.Procedure) (cond u (StandsAs (CallEntry (executed w log c))) (IsNothing cause.Untrue))))
+-- a call that passes the tests, but for what is known of its session
+module _ (s : SiteSetting) (known : Sessions) (log : Log) (c : Call) (bytes : List ℕ) (replies : ℕ → ℕ) (v : Option Verdict) (why : NothingCause) (early : nat_le c.snapshot (length log) ≡ true) where
+  abbrev w : Setting
+  w = s.setting
 
-    by_decided : (b : Bool) → outcome_of replies (tested true b true true) v ≡ outcome.Nothing why → ⊥
-    by_decided true e = never_nothing replies outcome.Stale why v (stale_is_something why) e
-    by_decided false e = never_nothing replies (outcome.Committed (executed w log c).reply) why v (reply_is_something (executed w log c).reply why) e
+  by_session : call_standing s known log c bytes ≡ request_standing w log c bytes (session_cause s.origin known c.request)
+  by_session = ap (λ (b : Bool). cond (not b) (IsNothing cause.Snapshot) (request_standing w log c bytes (session_cause s.origin known c.request))) early
+
+  -- it is nothing for its session's sake alone
+  nothing_for_session : takes_arguments (procedure_of w log c) c.args ≡ true → is_true w log c bytes ≡ true → outcome_of replies (call_standing s known log c bytes) v ≡ outcome.Nothing why
+      → session_cause s.origin known c.request ≡ Some why
+  nothing_for_session takes is told =
+      by_cause (session_cause s.origin known c.request) (sym (ap (λ (st : Standing). outcome_of replies st v) by_session) ∙ told)
+    where
+      tested : Bool → Bool → Bool → Standing
+      tested b t u = cond b (IsDecided c) (cond (not t) (IsNothing cause.Procedure) (cond u (StandsAs (CallEntry (executed w log c))) (IsNothing cause.Untrue)))
+
+      by_decided : (b : Bool) → outcome_of replies (tested b true true) v ≡ outcome.Nothing why → ⊥
+      by_decided true e = never_nothing replies outcome.Stale why v (stale_is_something why) e
+      by_decided false e = never_nothing replies (outcome.Committed (executed w log c).reply) why v (reply_is_something (executed w log c).reply why) e
+
+      same_cause : (a : NothingCause) → outcome.Nothing a ≡ outcome.Nothing why → a ≡ why
+      same_cause a e = cc
+
+      by_cause : (o : Option NothingCause) → outcome_of replies (request_standing w log c bytes o) v ≡ outcome.Nothing why → o ≡ Some why
+      by_cause (Some a) e = ap Some (same_cause a e)
+      by_cause None e = absurd (by_decided (is_decided w log c) (sym (ap (λ (st : Standing). outcome_of replies st v) (λ i. tested (is_decided w log c) (takes i) (is i))) ∙ e))
+
+  -- and is so where that stands against it
+  session_for_nothing : session_cause s.origin known c.request ≡ Some why → outcome_of replies (call_standing s known log c bytes) v ≡ outcome.Nothing why
+  session_for_nothing is = ap (λ (st : Standing). outcome_of replies st v) (by_session ∙ ap (request_standing w log c bytes) is)
 
 -- a call that was submitted behind some entries, where they go on: it passes the tests, and runs as it ran
 pub record IsOwn (s : SiteSetting) (entries later : List Entry) (bytes : List ℕ) (c : Call) : Type 0 where
@@ -116,17 +149,17 @@ pub record IsOwn (s : SiteSetting) (entries later : List Entry) (bytes : List �
   pub is : is_true s.setting (items_of (entries ++ later)) c bytes ≡ true
   pub run : run_in s.setting (items_of (entries ++ later)) c ≡ run_in s.setting (items_of entries) c
 
-pub own_is : (s : SiteSetting) (entries later : List Entry) (asked : Asked) (p : StoredProcedure) (bytes : List ℕ)
+pub own_is : (s : SiteSetting) (known : Sessions) (entries later : List Entry) (asked : Asked) (p : StoredProcedure) (bytes : List ℕ)
     → by_number (procedures_after s.setting (items_of entries) (length (items_of entries))) p.number ≡ Some p
     → head_of (entry_bytes (CallEntry (executed s.setting (items_of entries) (asked_call (items_of entries) p asked))))
     ≡ Some (CallHead (asked_call (items_of entries) p asked) (executed s.setting (items_of entries) (asked_call (items_of entries) p asked)).reply)
-    → answer_for s.setting entries asked (Some p) ≡ call.Submitted bytes → IsOwn s entries later bytes (asked_call (items_of entries) p asked)
-own_is s entries later asked p bytes numbered head answer =
+    → answer_for s known entries asked (Some p) ≡ call.Submitted bytes → IsOwn s entries later bytes (asked_call (items_of entries) p asked)
+own_is s known entries later asked p bytes numbered head answer =
     let w = s.setting in
     let log = items_of entries in
     let c = asked_call log p asked in
     let all = entries ++ later in
-    let o = ordered_by w entries asked p bytes answer in
+    let o = ordered_by s known entries asked p bytes answer in
     let as_items : items_of all ≡ log ++ items_of later = map-append item_of entries later in
     let run : run_in w (items_of all) c ≡ run_in w log c = ap (λ (l : Log). run_in w l c) as_items ∙ run_grown w log (items_of later) c (omega arith) in
     let le : length log ≤ length (items_of all) = omega (arith, ap length as_items, length-append log (items_of later)) in
@@ -144,13 +177,47 @@ own_is s entries later asked p bytes numbered head answer =
       run = run;
     }
 
-pub own_stands : (s : SiteSetting) (entries later : List Entry) (bytes : List ℕ) (c : Call) (why : NothingCause) → IsOwn s entries later bytes c → outcome_behind s (entries ++ later) bytes ≡ outcome.Nothing why → ⊥
-own_stands s entries later bytes c why own nothing =
-    let w = s.setting in
-    let all = entries ++ later in
-    let v = verdict_of w (items_of (with_bytes s all bytes)) (length all + 1) in
-    not_nothing w (items_of all) c bytes (replies_to s (with_bytes s all bytes) bytes) v why own.early own.takes own.is
-    (sym (ap (λ (st : Standing). outcome_of (replies_to s (with_bytes s all bytes) bytes) st v) (by_head s (items_of all) bytes c (executed w (items_of entries) c).reply own.head)) ∙ nothing)
+-- what comes of it is nothing for its session's sake alone
+module _ (s : SiteSetting) (now : Sessions) (entries later : List Entry) (bytes : List ℕ) (c : Call) (why : NothingCause) (own : IsOwn s entries later bytes c) where
+  abbrev all : List Entry
+  all = entries ++ later
+
+  abbrev replies : ℕ → ℕ
+  replies = replies_to s (with_bytes s now all bytes) bytes
+
+  abbrev v : Option Verdict
+  v = verdict_of s.setting (items_of (with_bytes s now all bytes)) (length all + 1)
+
+  by_call : outcome_behind s now all bytes ≡ outcome_of replies (call_standing s now (items_of all) c bytes) v
+  by_call = ap (λ (st : Standing). outcome_of replies st v) (stands_as_call s now (items_of all) bytes c (executed s.setting (items_of entries) c).reply own.head)
+
+  pub own_nothing : outcome_behind s now all bytes ≡ outcome.Nothing why → session_cause s.origin now c.request ≡ Some why
+  own_nothing nothing = nothing_for_session s now (items_of all) c bytes replies v why own.early own.takes own.is (sym by_call ∙ nothing)
+
+  pub nothing_own : session_cause s.origin now c.request ≡ Some why → outcome_behind s now all bytes ≡ outcome.Nothing why
+  nothing_own is = by_call ∙ session_for_nothing s now (items_of all) c bytes replies v why own.early is
+
+-- ---- behind an order
+
+-- what a lower law says
+abbrev pub HaveHeads : Type 0
+HaveHeads = (e : ExecutedCall) → CallFitsFields e → head_of (entry_bytes (CallEntry e)) ≡ Some (CallHead e.call e.reply)
+
+module _ (s : SiteSetting) (order : Order) (asked : Asked) (bytes : List ℕ) (is : IsAskedOf s order asked) (submitted : call_answer s order asked ≡ call.Submitted bytes) where
+  abbrev log : Log
+  log = order_log s order
+
+  answer : answer_for s (sessions_after s order) (order_entries s order) asked (Some is.procedure) ≡ call.Submitted bytes
+  answer = sym (settled_answer s order asked ∙ ap (answer_for s (sessions_after s order) (order_entries s order) asked) is.named) ∙ submitted
+
+  pub submitted_in_session : session_cause s.origin (sessions_after s order) asked.request ≡ None
+  submitted_in_session = (ordered_by s (sessions_after s order) (order_entries s order) asked is.procedure bytes answer).in_session
+
+  pub submitted_is_own : HaveHeads → (later : List Entry) → IsOwn s (order_entries s order) later bytes (asked_call log is.procedure asked)
+  submitted_is_own heads later =
+      own_is s (sessions_after s order) (order_entries s order) later asked is.procedure bytes
+      (subst (λ (n : ℕ). by_number (procedures_after s.setting log n) is.procedure.number ≡ Some is.procedure) (sym (length-map (order_entries s order) item_of)) is.numbered)
+      (heads (executed s.setting log (asked_call log is.procedure asked)) is.fits) answer
 
 -- ---- additions
 
@@ -178,14 +245,10 @@ added_by s p program bytes = by_tests (is_name p.name) refl s.takes_additions re
 added_is_something : (number : ℕ) (why : NothingCause) → outcome.Added number ≡ outcome.Nothing why → ⊥
 added_is_something number why e = absurd cc
 
-head_stands : (s : SiteSetting) (log : Log) (bytes : List ℕ) (p : NamedProcedure) → head_of bytes ≡ Some (AdditionHead p) → standing s log bytes ≡ addition_standing s p
-unfolding standing
-head_stands s log bytes p head = ap (standing_of_head s log bytes) head
-
-pub own_addition_stands : (s : SiteSetting) (entries : List Entry) (p : NamedProcedure) (program : Program) (bytes : List ℕ) (why : NothingCause) → p.args_len ≤ MAX_ARGUMENTS → check_of s.setting.tables p.args_len p.bytes ≡ Passed program
+pub own_addition_stands : (s : SiteSetting) (known : Sessions) (entries : List Entry) (p : NamedProcedure) (program : Program) (bytes : List ℕ) (why : NothingCause) → p.args_len ≤ MAX_ARGUMENTS → check_of s.setting.tables p.args_len p.bytes ≡ Passed program
     → spelling program ≡ p.bytes → head_of (entry_bytes (AdditionEntry (stored_as p program))) ≡ Some (AdditionHead (named_procedure (stored_as p program)))
-    → addition_answer s p ≡ addition.Submitted bytes → outcome_behind s entries bytes ≡ outcome.Nothing why → ⊥
-own_addition_stands s entries p program bytes why few passes spelled head answer nothing =
+    → addition_answer s p ≡ addition.Submitted bytes → outcome_behind s known entries bytes ≡ outcome.Nothing why → ⊥
+own_addition_stands s known entries p program bytes why few passes spelled head answer nothing =
     let added = added_by s p program bytes (sym (ap (answer_of_check s p) passes) ∙ answer) in
     let same : named_procedure (stored_as p program) ≡ p = ap (λ (xs : List ℕ). record { number = p.number; args_len = p.args_len; name = p.name; bytes = xs }) spelled in
     let same_head : head_of bytes ≡ Some (AdditionHead p) = ap head_of (sym added.are) ∙ head ∙ ap (λ (q : NamedProcedure). Some (AdditionHead q)) same in
@@ -193,6 +256,6 @@ own_addition_stands s entries p program bytes why few passes spelled head answer
     let tests : (s.takes_additions && (is_name p.name && nat_le p.args_len MAX_ARGUMENTS)) ≡ true = λ i. added.takes i && (added.named i && within i) in
     let stands : addition_standing s p ≡ StandsAs (AdditionEntry (stored_as p program)) =
     ap (λ (b : Bool). cond b (checked_standing p (check_of s.setting.tables p.args_len p.bytes)) (IsNothing cause.Addition)) tests ∙ ap (checked_standing p) passes in
-    let v = verdict_of s.setting (items_of (with_bytes s entries bytes)) (length entries + 1) in
-    never_nothing (replies_to s (with_bytes s entries bytes) bytes) (outcome.Added p.number) why v (added_is_something p.number why)
-    (sym (ap (λ (st : Standing). outcome_of (replies_to s (with_bytes s entries bytes) bytes) st v) (head_stands s (items_of entries) bytes p same_head ∙ stands)) ∙ nothing)
+    let v = verdict_of s.setting (items_of (with_bytes s known entries bytes)) (length entries + 1) in
+    never_nothing (replies_to s (with_bytes s known entries bytes) bytes) (outcome.Added p.number) why v (added_is_something p.number why)
+    (sym (ap (λ (st : Standing). outcome_of (replies_to s (with_bytes s known entries bytes) bytes) st v) (stands_as_addition s known (items_of entries) bytes p same_head ∙ stands)) ∙ nothing)

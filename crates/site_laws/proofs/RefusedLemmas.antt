@@ -19,12 +19,13 @@ use Rattle.log_model.proofs.GrowthLemmas.{grown, is_log_snoc, procedures_grown, 
 use Rattle.log_entry.specs.Head.{CallHead, head_of}
 use Rattle.site_model.specs.declared.outcome.EntryOutcome.TheVariants as outcome
 use Rattle.site_model.specs.Fit.{AreFitEntries}
+use Rattle.site_model.specs.Sessions.{Sessions}
 use Rattle.site_model.specs.Standing.{SiteSetting, Standing, StandsAs, IsDecided, call_standing, executed, is_decided, standing}
 use Rattle.site_model.specs.Order.{replies_to, call_of_none, entry_standing, next_entry, outcome_behind, outcome_by, outcome_of, with_bytes}
-use Rattle.site_model.proofs.StandingLemmas.{none_unused}
+use Rattle.site_model.proofs.StandingLemmas.{none_unused, stands_as_call}
 use Rattle.site_laws.specs.Settled.{AsksAgain}
 use Rattle.site_laws.proofs.LogLemmas.{HaveVerdicts, RunsAlike, commits_there}
-use Rattle.site_laws.proofs.SettledLemmas.{CommitMeans, NeverLost, OneMoreFits, NextFits, Stands, by_head, by_standing, known_by, last_there, stands_by, placed, runs_alike, same_runs, wrote_there}
+use Rattle.site_laws.proofs.SettledLemmas.{CommitMeans, NeverLost, OneMoreFits, NextFits, Stands, by_standing, known_by, last_there, stands_by, placed, runs_alike, same_runs, wrote_there}
 
 -- ---- a beginning of a log whose calls fit
 
@@ -123,7 +124,7 @@ abbrev pub StaleMeans : Type 0
 StaleMeans = (w : Setting) (l : Log) (d : ℕ) (c : Call) → IsLog l → slice_get l d ≡ Some (CallItem c)
     → (verdict_of w l (suc d) ≡ Some verdict.Stale) ↔ (IsNew w l c (suc d) × (w.window < d - c.snapshot))
 
-module _ (s : SiteSetting) (entries : List Entry) (bytes : List ℕ) (call : Call) (told : ℕ) (head : head_of bytes ≡ Some (CallHead call told)) where
+module _ (s : SiteSetting) (known : Sessions) (entries : List Entry) (bytes : List ℕ) (call : Call) (told : ℕ) (head : head_of bytes ≡ Some (CallHead call told)) where
   abbrev log : Log
   log = items_of entries
 
@@ -131,39 +132,36 @@ module _ (s : SiteSetting) (entries : List Entry) (bytes : List ℕ) (call : Cal
   setting = s.setting
 
   abbrev behind : List Entry
-  behind = with_bytes s entries bytes
+  behind = with_bytes s known entries bytes
 
   abbrev replies : ℕ → ℕ
-  replies = replies_to s (with_bytes s entries bytes) bytes
+  replies = replies_to s (with_bytes s known entries bytes) bytes
 
   abbrev next_verdict : Option Verdict
-  next_verdict = verdict_of s.setting (items_of (with_bytes s entries bytes)) (length entries + 1)
+  next_verdict = verdict_of s.setting (items_of (with_bytes s known entries bytes)) (length entries + 1)
 
-  by_its_standing : standing s log bytes ≡ call_standing s.setting log call bytes
-  by_its_standing = by_head s log bytes call told head
+  by_its_standing : standing s known log bytes ≡ call_standing s known log call bytes
+  by_its_standing = stands_as_call s known log bytes call told head
 
-  outcome_is : outcome_behind s entries bytes ≡ outcome_of (replies_to s (with_bytes s entries bytes) bytes) (call_standing s.setting log call bytes) next_verdict
-  outcome_is = ap (λ (st : Standing). outcome_of (replies_to s (with_bytes s entries bytes) bytes) st next_verdict) by_its_standing
+  outcome_is : outcome_behind s known entries bytes ≡ outcome_of (replies_to s (with_bytes s known entries bytes) bytes) (call_standing s known log call bytes) next_verdict
+  outcome_is = ap (λ (st : Standing). outcome_of (replies_to s (with_bytes s known entries bytes) bytes) st next_verdict) by_its_standing
 
   -- its item, as it stands
-  item_is : (st : Standing) → call_standing s.setting log call bytes ≡ st → items_of (with_bytes s entries bytes) ≡ log ++ item_of (entry_standing s.setting log st) ∷ []
-  item_is st is = map-append item_of entries (next_entry s entries bytes ∷ []) ∙ ap (λ (x : Standing). log ++ item_of (entry_standing s.setting log x) ∷ []) (by_its_standing ∙ is)
+  item_is : (st : Standing) → call_standing s known log call bytes ≡ st → items_of (with_bytes s known entries bytes) ≡ log ++ item_of (entry_standing s.setting log st) ∷ []
+  item_is st is = map-append item_of entries (next_entry s known entries bytes ∷ []) ∙ ap (λ (x : Standing). log ++ item_of (entry_standing s.setting log x) ∷ []) (by_its_standing ∙ is)
 
-  verdict_is : (item : Item) → items_of (with_bytes s entries bytes) ≡ log ++ item ∷ [] → next_verdict ≡ verdict_of s.setting (log ++ item ∷ []) (suc (length log))
+  verdict_is : (item : Item) → items_of (with_bytes s known entries bytes) ≡ log ++ item ∷ [] → next_verdict ≡ verdict_of s.setting (log ++ item ∷ []) (suc (length log))
   verdict_is item is =
       ap (λ (l : Log). verdict_of s.setting l (length entries + 1)) is
       ∙ ap (verdict_of s.setting (log ++ item ∷ [])) (let n : length entries + 1 ≡ suc (length log) = omega (arith, length-map entries item_of) in n)
 
-  long_enough : nat_le call.snapshot (length log) ≡ true → call.snapshot ≤ length log
-  long_enough is = grind (arith, nat_tests)
-
   -- stale: more items than the window were ordered since its snapshot
-  pub is_stale : StaleMeans → IsLog (items_of (with_bytes s entries bytes)) → outcome_behind s entries bytes ≡ outcome.Stale → s.setting.window < length log - call.snapshot
+  pub is_stale : StaleMeans → IsLog (items_of (with_bytes s known entries bytes)) → outcome_behind s known entries bytes ≡ outcome.Stale → s.setting.window < length log - call.snapshot
   is_stale means is_log refused =
-      by_standing setting log call bytes (λ st. call_standing setting log call bytes ≡ st → outcome_of replies st next_verdict ≡ outcome.Stale → setting.window < length log - call.snapshot)
+      by_standing s known log call bytes (λ st. call_standing s known log call bytes ≡ st → outcome_of replies st next_verdict ≡ outcome.Stale → setting.window < length log - call.snapshot)
       (λ c is told. absurd cc) decided stands refl (sym outcome_is ∙ refused)
     where
-      decided : nat_le call.snapshot (length log) ≡ true → is_decided setting log call ≡ true → call_standing setting log call bytes ≡ IsDecided call → outcome_by replies outcome.Stale next_verdict ≡ outcome.Stale → setting.window < length log - call.snapshot
+      decided : call.snapshot ≤ length log → is_decided setting log call ≡ true → call_standing s known log call bytes ≡ IsDecided call → outcome_by replies outcome.Stale next_verdict ≡ outcome.Stale → setting.window < length log - call.snapshot
       decided early is stands_so told = by_count (nat_le (length log - call.snapshot) setting.window) refl (first_repeated setting.beginning.requests (history setting log).certified call) refl is
         where
           none : Call
@@ -180,31 +178,31 @@ module _ (s : SiteSetting) (entries : List Entry) (bytes : List ℕ) (call : Cal
               not_told : (n : ℕ) → outcome_by replies outcome.Stale (Some (verdict.Repeated n)) ≡ outcome.Stale → ⊥
               not_told n e = absurd cc
 
-      stands : Stands setting log call bytes → call_standing setting log call bytes ≡ StandsAs (CallEntry (executed setting log call)) → outcome_by replies (outcome.Committed (executed setting log call).reply) next_verdict ≡ outcome.Stale → setting.window < length log - call.snapshot
+      stands : Stands s known log call bytes → call_standing s known log call bytes ≡ StandsAs (CallEntry (executed setting log call)) → outcome_by replies (outcome.Committed (executed setting log call).reply) next_verdict ≡ outcome.Stale → setting.window < length log - call.snapshot
       stands st stands_so told =
           let items = item_is (StandsAs (CallEntry (executed setting log call))) stands_so in
           let stale = sym (verdict_is (CallItem call) items) ∙ by_stale replies (executed setting log call).reply next_verdict told in
           ((means setting (log ++ CallItem call ∷ []) (length log) call (subst IsLog items is_log) (last_there log (CallItem call))).0 stale).1
 
   -- in conflict with what a committed call wrote, which its run had looked at
-  pub is_conflicted : ConflictMeans → IsLog (items_of (with_bytes s entries bytes)) → (position : ℕ) → outcome_behind s entries bytes ≡ outcome.Conflict position
-      → IsConflict s.setting (log ++ CallItem call ∷ []) call position (suc (length log)) × (call.snapshot ≤ length log) × (items_of (with_bytes s entries bytes) ≡ log ++ CallItem call ∷ [])
+  pub is_conflicted : ConflictMeans → IsLog (items_of (with_bytes s known entries bytes)) → (position : ℕ) → outcome_behind s known entries bytes ≡ outcome.Conflict position
+      → IsConflict s.setting (log ++ CallItem call ∷ []) call position (suc (length log)) × (call.snapshot ≤ length log) × (items_of (with_bytes s known entries bytes) ≡ log ++ CallItem call ∷ [])
   is_conflicted means is_log position refused =
-      by_standing setting log call bytes (λ st. call_standing setting log call bytes ≡ st → outcome_of replies st next_verdict ≡ outcome.Conflict position → Found)
+      by_standing s known log call bytes (λ st. call_standing s known log call bytes ≡ st → outcome_of replies st next_verdict ≡ outcome.Conflict position → Found)
       (λ c is told. absurd cc) decided stands refl (sym outcome_is ∙ refused)
     where
       Found : Type 0
       Found = IsConflict setting (log ++ CallItem call ∷ []) call position (suc (length log)) × (call.snapshot ≤ length log) × (items_of behind ≡ log ++ CallItem call ∷ [])
 
-      decided : nat_le call.snapshot (length log) ≡ true → is_decided setting log call ≡ true → call_standing setting log call bytes ≡ IsDecided call → outcome_by replies outcome.Stale next_verdict ≡ outcome.Conflict position → Found
+      decided : call.snapshot ≤ length log → is_decided setting log call ≡ true → call_standing s known log call bytes ≡ IsDecided call → outcome_by replies outcome.Stale next_verdict ≡ outcome.Conflict position → Found
       decided early is stands_so told =
           let none = call_of_none (procedures_after setting log call.snapshot) call.snapshot call.request in
           let items = item_is (IsDecided call) stands_so in
           let conflict = sym (verdict_is (CallItem none) items) ∙ by_default_conflict replies position next_verdict told in
           let facts = (means setting (log ++ CallItem none ∷ []) (length log) none position (subst IsLog items is_log) (last_there log (CallItem none))).0 conflict in
-          absurd (no_conflict_of_none setting (log ++ CallItem none ∷ []) none [] position (suc (length log)) refl (none_looks setting log call.snapshot call.request (long_enough early)) facts.2.is)
+          absurd (no_conflict_of_none setting (log ++ CallItem none ∷ []) none [] position (suc (length log)) refl (none_looks setting log call.snapshot call.request early) facts.2.is)
 
-      stands : Stands setting log call bytes → call_standing setting log call bytes ≡ StandsAs (CallEntry (executed setting log call)) → outcome_by replies (outcome.Committed (executed setting log call).reply) next_verdict ≡ outcome.Conflict position → Found
+      stands : Stands s known log call bytes → call_standing s known log call bytes ≡ StandsAs (CallEntry (executed setting log call)) → outcome_by replies (outcome.Committed (executed setting log call).reply) next_verdict ≡ outcome.Conflict position → Found
       stands st stands_so told =
           let items = item_is (StandsAs (CallEntry (executed setting log call))) stands_so in
           let conflict = sym (verdict_is (CallItem call) items) ∙ by_conflict replies (executed setting log call).reply position next_verdict told in
@@ -216,42 +214,42 @@ module _ (s : SiteSetting) (entries : List Entry) (bytes : List ℕ) (call : Cal
 -- ---- what commits
 
 -- a call that commits behind entries
-record CommitsBehind (s : SiteSetting) (entries : List Entry) (bytes : List ℕ) (call : Call) : Type 0 where
-  items : items_of (with_bytes s entries bytes) ≡ items_of entries ++ CallItem call ∷ []
+record CommitsBehind (s : SiteSetting) (known : Sessions) (entries : List Entry) (bytes : List ℕ) (call : Call) : Type 0 where
+  items : items_of (with_bytes s known entries bytes) ≡ items_of entries ++ CallItem call ∷ []
   commit : verdict_of s.setting (items_of entries ++ CallItem call ∷ []) (suc (length (items_of entries))) ≡ Some verdict.Commit
   procedure : StoredProcedure
-  known : procedure_of s.setting (items_of entries) call ≡ Some procedure
+  found : procedure_of s.setting (items_of entries) call ≡ Some procedure
   fits : FitsLog s.setting (items_of entries) (CallItem call)
 
-commits_behind : (s : SiteSetting) (entries : List Entry) (bytes : List ℕ) (call : Call) (told reply : ℕ) → HaveVerdicts → NextFits → All (λ b. b < 256) bytes → head_of bytes ≡ Some (CallHead call told)
-    → outcome_behind s entries bytes ≡ outcome.Committed reply → CommitsBehind s entries bytes call
-commits_behind s entries bytes call told reply verdicts next_fits are_bytes head commits =
+commits_behind : (s : SiteSetting) (known : Sessions) (entries : List Entry) (bytes : List ℕ) (call : Call) (told reply : ℕ) → HaveVerdicts → NextFits → All (λ b. b < 256) bytes → head_of bytes ≡ Some (CallHead call told)
+    → outcome_behind s known entries bytes ≡ outcome.Committed reply → CommitsBehind s known entries bytes call
+commits_behind s known entries bytes call told reply verdicts next_fits are_bytes head commits =
     let w = s.setting in
     let log = items_of entries in
     let es = executed w log call in
-    let by = by_head s log bytes call told head in
-    let st = stands_by w log call bytes (replies_to s (with_bytes s entries bytes) bytes) (verdict_of w (items_of (with_bytes s entries bytes)) (length entries + 1)) reply
-    (sym (ap (λ (x : Standing). outcome_of (replies_to s (with_bytes s entries bytes) bytes) x (verdict_of w (items_of (with_bytes s entries bytes)) (length entries + 1))) by) ∙ commits) in
-    let stands : standing s log bytes ≡ StandsAs (CallEntry es) = by ∙ st.stands in
-    let there = commits_there s entries bytes verdicts es reply stands commits in
-    let next : next_entry s entries bytes ≡ CallEntry es = ap (entry_standing w log) stands in
-    let items : items_of (with_bytes s entries bytes) ≡ log ++ CallItem call ∷ [] =
-    map-append item_of entries (next_entry s entries bytes ∷ []) ∙ ap (λ (e : Entry). log ++ item_of e ∷ []) next in
-    let (q, known) = known_by (procedure_of w log call) call.args st.takes in
+    let by = stands_as_call s known log bytes call told head in
+    let st = stands_by s known log call bytes (replies_to s (with_bytes s known entries bytes) bytes) (verdict_of w (items_of (with_bytes s known entries bytes)) (length entries + 1)) reply
+    (sym (ap (λ (x : Standing). outcome_of (replies_to s (with_bytes s known entries bytes) bytes) x (verdict_of w (items_of (with_bytes s known entries bytes)) (length entries + 1))) by) ∙ commits) in
+    let stands : standing s known log bytes ≡ StandsAs (CallEntry es) = by ∙ st.stands in
+    let there = commits_there s known entries bytes verdicts es reply stands commits in
+    let next : next_entry s known entries bytes ≡ CallEntry es = ap (entry_standing w log) stands in
+    let items : items_of (with_bytes s known entries bytes) ≡ log ++ CallItem call ∷ [] =
+    map-append item_of entries (next_entry s known entries bytes ∷ []) ∙ ap (λ (e : Entry). log ++ item_of e ∷ []) next in
+    let (q, found) = known_by (procedure_of w log call) call.args st.takes in
     record {
       items = items;
       commit = subst (λ (n : ℕ). verdict_of w (log ++ CallItem call ∷ []) (suc n) ≡ Some verdict.Commit) (sym (length-map entries item_of))
           (subst (λ (l : Log). verdict_of w l (suc (length entries)) ≡ Some verdict.Commit) items there.0);
       procedure = q;
-      known = known;
-      fits = subst (λ (e : Entry). FitsLog w log (item_of e)) next (next_fits s entries bytes are_bytes (λ p is. absurd (not_added es p (sym stands ∙ is))));
+      found = found;
+      fits = subst (λ (e : Entry). FitsLog w log (item_of e)) next (next_fits s known entries bytes are_bytes (λ p is. absurd (not_added es p (sym stands ∙ is))));
     }
   where
     not_added : (e : ExecutedCall) (p : StoredProcedure) → StandsAs (CallEntry e) ≡ StandsAs (AdditionEntry p) → ⊥
     not_added e p same = absurd cc
 
 -- entries behind a byte string that is a call, of which the last is a call that asks the same on rows that aren't newer
-module _ (s : SiteSetting) (base later : List Entry) (first second : List ℕ) (a b : Call) (told other : ℕ) (asks : AsksAgain a b) where
+module _ (s : SiteSetting) (known now : Sessions) (base later : List Entry) (first second : List ℕ) (a b : Call) (told other : ℕ) (asks : AsksAgain a b) where
   abbrev w : Setting
   w = s.setting
 
@@ -259,33 +257,33 @@ module _ (s : SiteSetting) (base later : List Entry) (first second : List ℕ) (
   front = items_of base
 
   abbrev all : List Entry
-  all = with_bytes s base first ++ later
+  all = with_bytes s known base first ++ later
 
   abbrev whole : Log
   whole = items_of all
 
-  all_items : whole ≡ items_of (with_bytes s base first) ++ items_of later
-  all_items = map-append item_of (with_bytes s base first) later
+  all_items : whole ≡ items_of (with_bytes s known base first) ++ items_of later
+  all_items = map-append item_of (with_bytes s known base first) later
 
   longer : length front < length whole
-  longer = omega (arith, ap length all_items, length-append (items_of (with_bytes s base first)) (items_of later), ap length (map-append item_of base (next_entry s base first ∷ [])), length-append front (items_of (next_entry s base first ∷ [])))
+  longer = omega (arith, ap length all_items, length-append (items_of (with_bytes s known base first)) (items_of later), ap length (map-append item_of base (next_entry s known base first ∷ [])), length-append front (items_of (next_entry s known base first ∷ [])))
 
   -- the first was stale
-  pub never_after_stale : HaveVerdicts → NextFits → StaleMeans → CommitMeans → IsLog (items_of (with_bytes s base first)) → IsLog (items_of (with_bytes s all second)) → All (λ x. x < 256) second
-      → head_of first ≡ Some (CallHead a told) → head_of second ≡ Some (CallHead b other) → outcome_behind s base first ≡ outcome.Stale → (reply : ℕ) → outcome_behind s all second ≡ outcome.Committed reply → ⊥
+  pub never_after_stale : HaveVerdicts → NextFits → StaleMeans → CommitMeans → IsLog (items_of (with_bytes s known base first)) → IsLog (items_of (with_bytes s now all second)) → All (λ x. x < 256) second
+      → head_of first ≡ Some (CallHead a told) → head_of second ≡ Some (CallHead b other) → outcome_behind s known base first ≡ outcome.Stale → (reply : ℕ) → outcome_behind s now all second ≡ outcome.Committed reply → ⊥
   never_after_stale verdicts next_fits stale_means means first_log all_log are_bytes first_head head stale reply commits =
-      let late = is_stale s base first a told first_head stale_means first_log stale in
-      let c = commits_behind s all second b other reply verdicts next_fits are_bytes head commits in
+      let late = is_stale s known base first a told first_head stale_means first_log stale in
+      let c = commits_behind s now all second b other reply verdicts next_fits are_bytes head commits in
       let facts = (means w (whole ++ CallItem b ∷ []) (length whole) b (subst IsLog c.items all_log) (last_there whole (CallItem b))).0 c.commit in
       absurd (omega (arith, late, facts.1, longer, asks.snapshot))
 
   -- the first was in conflict
-  pub never_after_conflict : HaveVerdicts → NextFits → OneMoreFits → NeverLost → RunsAlike → ConflictMeans → CommitMeans → AreFitEntries w all → IsLog (items_of (with_bytes s base first)) → IsLog (items_of (with_bytes s all second))
-      → All (λ x. x < 256) second → head_of first ≡ Some (CallHead a told) → head_of second ≡ Some (CallHead b other) → (position : ℕ) → outcome_behind s base first ≡ outcome.Conflict position
-      → (reply : ℕ) → outcome_behind s all second ≡ outcome.Committed reply → ⊥
+  pub never_after_conflict : HaveVerdicts → NextFits → OneMoreFits → NeverLost → RunsAlike → ConflictMeans → CommitMeans → AreFitEntries w all → IsLog (items_of (with_bytes s known base first)) → IsLog (items_of (with_bytes s now all second))
+      → All (λ x. x < 256) second → head_of first ≡ Some (CallHead a told) → head_of second ≡ Some (CallHead b other) → (position : ℕ) → outcome_behind s known base first ≡ outcome.Conflict position
+      → (reply : ℕ) → outcome_behind s now all second ≡ outcome.Committed reply → ⊥
   never_after_conflict verdicts next_fits more_fits lost alike conflict_means means are first_log all_log are_bytes first_head head position refused reply commits =
-      let (conflict, early, first_items) = is_conflicted s base first a told first_head conflict_means first_log position refused in
-      let c = commits_behind s all second b other reply verdicts next_fits are_bytes head commits in
+      let (conflict, early, first_items) = is_conflicted s known base first a told first_head conflict_means first_log position refused in
+      let c = commits_behind s now all second b other reply verdicts next_fits are_bytes head commits in
       let n = a.snapshot in
       let old = take n front in
       let rest = CallItem a ∷ items_of later in
@@ -307,11 +305,11 @@ module _ (s : SiteSetting) (base later : List Entry) (first second : List ℕ) (
       subst (λ (l : Log). verdict_of w (l ++ CallItem b ∷ []) (suc (length l)) ≡ Some verdict.Commit) from_old c.commit in
       let run = runs_alike w old more b b_early means alike are.begins short_log long_log (more_fits w old (CallItem b) old_log old_fits b_early b_fits) commit in
       -- so it looks where the first one looked
-      let known : by_number (procedures_after w old b.snapshot) b.procedure ≡ Some c.procedure = ap (λ (ps : Catalogue). by_number ps b.procedure) (sym grown_old) ∙ c.known in
-      let known_then : by_number (procedures_after w old a.snapshot) a.procedure ≡ Some c.procedure =
+      let found : by_number (procedures_after w old b.snapshot) b.procedure ≡ Some c.procedure = ap (λ (ps : Catalogue). by_number ps b.procedure) (sym grown_old) ∙ c.found in
+      let found_then : by_number (procedures_after w old a.snapshot) a.procedure ≡ Some c.procedure =
       subst (λ (k : ℕ). by_number (procedures_after w old a.snapshot) k ≡ Some c.procedure) asks.procedure
-      (lost w old b.snapshot a.snapshot b.procedure c.procedure old_log asks.snapshot (omega (arith, count)) known) in
-      let same = same_runs w old b a c.procedure (rows_after w old a.snapshot) b_early known known_then asks.args (CallItem b) in
+      (lost w old b.snapshot a.snapshot b.procedure c.procedure old_log asks.snapshot (omega (arith, count)) found) in
+      let same = same_runs w old b a c.procedure (rows_after w old a.snapshot) b_early found found_then asks.args (CallItem b) in
       let rows : rows_after w (old ++ CallItem b ∷ []) (length old) ≡ rows_after w old a.snapshot =
       rows_grown w old (CallItem b ∷ []) (length old) (omega arith) ∙ ap (rows_after w old) count in
       let looks_then : (run_in w (old ++ CallItem b ∷ []) b).looks ≡ (run_in w old a).looks =

@@ -12,7 +12,7 @@ use Rattle.site_model.specs.declared.outcome.EntryOutcome.{EntryOutcome}
 use Rattle.site_model.specs.declared.outcome.EntryOutcome.TheVariants as outcome
 use Rattle.site_model.specs.Fit.{AreFitEntries}
 use Rattle.site_model.specs.Standing.{SiteSetting, StandsAs, executed, standing}
-use Rattle.site_model.specs.Order.{Order, next_outcome, order_entries, order_log}
+use Rattle.site_model.specs.Order.{Order, next_outcome, order_entries, order_log, sessions_after}
 use Rattle.site_laws.specs.Orders.{IsBytes, IsOfBytes, rows_behind}
 use Rattle.site_laws.specs.Serial.{RunsNext, RunInTurn, ToldCall, committed_behind, told_where_committed}
 use Rattle.site_laws.proofs.LogLemmas.{ArePlaced, beginning, entry_is}
@@ -21,7 +21,7 @@ use Rattle.site_laws.proofs.OutcomeLemmas.{committed_from}
 -- what the laws of one more byte string say
 abbrev pub Committed : Type 0
 Committed = (s : SiteSetting) (order : Order) (bytes : List ℕ) (e : ExecutedCall) (reply : ℕ) → AreFitEntries s.setting (order_entries s (order ++ bytes ∷ []))
-    → standing s (order_log s order) bytes ≡ StandsAs (CallEntry e) → next_outcome s order bytes ≡ outcome.Committed reply → RunsNext s order bytes e.call reply
+    → standing s (sessions_after s order) (order_log s order) bytes ≡ StandsAs (CallEntry e) → next_outcome s order bytes ≡ outcome.Committed reply → RunsNext s order bytes e.call reply
 
 abbrev pub Others : Type 0
 Others = (s : SiteSetting) (order : Order) (bytes : List ℕ) → ((reply : ℕ) → next_outcome s order bytes ≢ outcome.Committed reply)
@@ -58,13 +58,13 @@ module _ (s : SiteSetting) (committed : Committed) (others : Others) (count : Co
     left : ((reply : ℕ) → next_outcome s order bytes ≢ outcome.Committed reply) → rows_behind s next ≡ rows_behind s order
     left never = ap (λ (n : ℕ). rows_after s.setting (order_log s next) n) one_longer ∙ others s order bytes never
 
-    recent : (call : Call) → standing s (order_log s order) bytes ≡ StandsAs (CallEntry (executed s.setting (order_log s order) call)) → call.snapshot ≤ length (order_log s next)
+    recent : (call : Call) → standing s (sessions_after s order) (order_log s order) bytes ≡ StandsAs (CallEntry (executed s.setting (order_log s order) call)) → call.snapshot ≤ length (order_log s next)
     recent call stands =
         let early : call.snapshot ≤ length (order_entries s order) =
-        subst (λ (e : Entry). IsPlaced (length (order_entries s order)) (item_of e)) (entry_is s (order_entries s order) bytes (CallEntry (executed s.setting (order_log s order) call)) stands) (placed s (order_entries s order) bytes) in
+        subst (λ (e : Entry). IsPlaced (length (order_entries s order)) (item_of e)) (entry_is s (sessions_after s order) (order_entries s order) bytes (CallEntry (executed s.setting (order_log s order) call)) stands) (placed s (sessions_after s order) (order_entries s order) bytes) in
         omega (arith, early, count s order, count s next, one_longer, length-map (order_entries s next) item_of)
 
-    runs : (call : Call) (reply : ℕ) → standing s (order_log s order) bytes ≡ StandsAs (CallEntry (executed s.setting (order_log s order) call)) → next_outcome s order bytes ≡ outcome.Committed reply
+    runs : (call : Call) (reply : ℕ) → standing s (sessions_after s order) (order_log s order) bytes ≡ StandsAs (CallEntry (executed s.setting (order_log s order) call)) → next_outcome s order bytes ≡ outcome.Committed reply
         → (rows_behind s next ≡ (run_on s.setting whole call (rows_behind s order)).effect) × (reply ≡ (run_on s.setting whole call (rows_behind s order)).reply)
     runs call reply stands commits =
         let turn = committed s order bytes (executed s.setting (order_log s order) call) reply (fit next are) stands commits in
@@ -84,16 +84,16 @@ module _ (s : SiteSetting) (committed : Committed) (others : Others) (count : Co
     by_head : (h : Option Head) → head_of bytes ≡ h → (reply : ℕ) → next_outcome s order bytes ≡ outcome.Committed reply
         → RunInTurn s.setting whole (rows_behind s next) (committed_behind s next more) (rows_behind s (next ++ more)) → Goes (told_where_committed (outcome.Committed reply) h)
     unfolding RunInTurn
-    by_head None is reply commits later = absurd (let (call, told, is_call) = committed_from s (order_entries s order) bytes reply commits in no_head call told (sym is ∙ is_call.head))
+    by_head None is reply commits later = absurd (let (call, told, is_call) = committed_from s (sessions_after s order) (order_entries s order) bytes reply commits in no_head call told (sym is ∙ is_call.head))
       where
         no_head : (call : Call) (told : ℕ) → None ≡ Some (CallHead call told) → ⊥
         no_head call told e = absurd cc
-    by_head (Some (AdditionHead n)) is reply commits later = absurd (let (call, told, is_call) = committed_from s (order_entries s order) bytes reply commits in no_addition call told (sym is ∙ is_call.head))
+    by_head (Some (AdditionHead n)) is reply commits later = absurd (let (call, told, is_call) = committed_from s (sessions_after s order) (order_entries s order) bytes reply commits in no_addition call told (sym is ∙ is_call.head))
       where
         no_addition : (call : Call) (told : ℕ) → Some (AdditionHead n) ≡ Some (CallHead call told) → ⊥
         no_addition call told e = absurd cc
     by_head (Some (CallHead call carried)) is reply commits later =
-        let (c, told, is_call) = committed_from s (order_entries s order) bytes reply commits in
+        let (c, told, is_call) = committed_from s (sessions_after s order) (order_entries s order) bytes reply commits in
         let same : c ≡ call = same_call c call told carried (sym is_call.head ∙ is) in
         let ran = subst (λ (x : Call). (rows_behind s next ≡ (run_on s.setting whole x (rows_behind s order)).effect) × (reply ≡ (run_on s.setting whole x (rows_behind s order)).reply)) same (runs c reply is_call.stands commits) in
         (ran.1, subst (λ (rows : Rows). RunInTurn s.setting whole rows (committed_behind s next more) (rows_behind s (next ++ more))) ran.0 later)
@@ -105,6 +105,7 @@ module _ (s : SiteSetting) (committed : Committed) (others : Others) (count : Co
     by_outcome (outcome.Repeated n reply) is later = goes_where_left later (λ reply e. absurd (let x = sym is ∙ e in cc))
     by_outcome (outcome.Added n) is later = goes_where_left later (λ reply e. absurd (let x = sym is ∙ e in cc))
     by_outcome (outcome.Taken i) is later = goes_where_left later (λ reply e. absurd (let x = sym is ∙ e in cc))
+    by_outcome (outcome.Session session) is later = goes_where_left later (λ reply e. absurd (let x = sym is ∙ e in cc))
     by_outcome (outcome.Nothing c) is later = goes_where_left later (λ reply e. absurd (let x = sym is ∙ e in cc))
 
   pub in_turn : (order more : Order) → IsOfBytes order → IsOfBytes more → RunInTurn s.setting (order_log s (order ++ more)) (rows_behind s order) (committed_behind s order more) (rows_behind s (order ++ more))

@@ -1,5 +1,5 @@
 -- A call that commits would have written the same at each position from its snapshot on.
-use Rattle.std.proofs.Common.{◌≡◌, ℕ, zero, suc, ◌+◌, ◌-◌, ◌==◌, ◌≤◌, ◌<◌, Bool, true, false, not, ◌&&◌, nat_le, cond, is_some, List, [], ◌∷◌, ◌++◌, All, length, slice_get, Option, Some, None, IsSome, Result, Ok, Err, refl, sym, ap, subst, ◌∙◌, arith, append_assoc}
+use Rattle.std.proofs.Common.{◌≡◌, ℕ, zero, suc, ◌+◌, ◌-◌, ◌==◌, ◌≤◌, ◌<◌, Bool, true, false, not, ◌&&◌, cond, is_some, List, [], ◌∷◌, ◌++◌, All, length, slice_get, Option, Some, None, IsSome, Result, Ok, Err, refl, sym, ap, subst, ◌∙◌, arith, append_assoc}
 use Rattle.std.specs.Prelude.{◌↔◌}
 use Rattle.std.specs.FinMap.{get, len}
 use Rattle.std.proofs.lemmas.List.{length-append, length-map, map-append}
@@ -20,7 +20,6 @@ use Rattle.log_model.specs.Verdicts.{IsConflict, IsNew, WroteWhatWasRead}
 use Rattle.log_model.proofs.GrowthLemmas.{get_before, is_log_snoc, procedures_grown, rows_grown, run_grown, verdict_grown}
 use Rattle.site_model.specs.declared.outcome.EntryOutcome.TheVariants as outcome
 use Rattle.site_model.specs.declared.cause.NothingCause.{NothingCause}
-use Rattle.site_model.specs.declared.cause.NothingCause.TheVariants as cause
 use Rattle.site_model.specs.declared.answer.CallAnswer.{CallAnswer}
 use Rattle.site_model.specs.declared.answer.CallAnswer.TheVariants.{Read, Submitted}
 use Rattle.log_model.specs.declared.refusal.CallRefusal.{CallRefusal}
@@ -28,9 +27,11 @@ use Rattle.log_model.specs.Admission.{admission}
 use Rattle.log_model.specs.OpenRequest.{has_zero}
 use Rattle.log_model.proofs.AdmissionLemmas.{is_admitted}
 use Rattle.site_model.specs.Fit.{AreFitEntries}
-use Rattle.site_model.specs.Standing.{SiteSetting, Standing, StandsAs, IsDecided, IsNothing, call_standing, executed, is_decided, is_true, standing, standing_of_head, takes_arguments, writes_something}
-use Rattle.site_model.specs.Order.{reply_to, replies_to, Order, entry_standing, next_entry, order_entries, order_log, outcome_behind, outcome_by, outcome_of, with_bytes}
-use Rattle.site_model.specs.Answer.{Asked, answer_for, answer_of_admission, answer_of_run, asked_call, call_answer, call_answer_behind, unless_cancelled, unless_repeated}
+use Rattle.site_model.specs.Sessions.{Sessions, session_cause}
+use Rattle.site_model.specs.Standing.{SiteSetting, Standing, StandsAs, IsDecided, IsNothing, call_standing, executed, is_decided, is_true, standing, takes_arguments, writes_something}
+use Rattle.site_model.specs.Order.{reply_to, replies_to, Order, entry_standing, next_entry, order_entries, order_log, outcome_behind, outcome_by, outcome_of, sessions_after, with_bytes}
+use Rattle.site_model.specs.Answer.{Asked, answer_for, answer_of_admission, answer_of_run, asked_call, call_answer, call_answer_behind, in_session, unless_cancelled, unless_repeated}
+use Rattle.site_model.proofs.StandingLemmas.{call_cases, stands_as_call}
 use Rattle.site_laws.specs.Settled.{IsSettled}
 use Rattle.site_laws.proofs.LogLemmas.{HaveVerdicts, RunsAlike, commits_there}
 
@@ -137,33 +138,26 @@ never_by_default replies reply (Some verdict.Stale) e = absurd cc
 never_by_default replies reply (Some (verdict.Repeated n)) e = absurd cc
 never_by_default replies reply (Some (verdict.Taken i)) e = absurd cc
 
--- a call that commits is of a procedure that takes its arguments, and stands as its run says
-pub record Stands (w : Setting) (log : Log) (call : Call) (bytes : List ℕ) : Type 0 where
-  pub takes : takes_arguments (procedure_of w log call) call.args ≡ true
-  pub is : is_true w log call bytes ≡ true
-  pub stands : call_standing w log call bytes ≡ StandsAs (CallEntry (executed w log call))
-
--- by the tests in their order
-abbrev tested : Setting → Log → Call → Bool → Bool → Bool → Bool → Standing
-tested w log call a b t u = cond (not a) (IsNothing cause.Snapshot) (cond b (IsDecided call) (cond (not t) (IsNothing cause.Procedure) (cond u (StandsAs (CallEntry (executed w log call))) (IsNothing cause.Untrue))))
+-- nothing is against a call that commits for its session's sake. It is of a procedure that takes its arguments, and stands
+-- as its run says
+pub record Stands (s : SiteSetting) (known : Sessions) (log : Log) (call : Call) (bytes : List ℕ) : Type 0 where
+  pub in_session : session_cause s.origin known call.request ≡ None
+  pub takes : takes_arguments (procedure_of s.setting log call) call.args ≡ true
+  pub is : is_true s.setting log call bytes ≡ true
+  pub stands : call_standing s known log call bytes ≡ StandsAs (CallEntry (executed s.setting log call))
 
 -- what holds of each way in which a call stands
-pub by_standing : (w : Setting) (log : Log) (call : Call) (bytes : List ℕ) (P : Standing → Type 0) → ((c : NothingCause) → P (IsNothing c)) → (nat_le call.snapshot (length log) ≡ true → is_decided w log call ≡ true → P (IsDecided call))
-    → (Stands w log call bytes → P (StandsAs (CallEntry (executed w log call)))) → P (call_standing w log call bytes)
-by_standing w log call bytes P nothing decided stands =
-    pick (nat_le call.snapshot (length log)) (is_decided w log call) (takes_arguments (procedure_of w log call) call.args) (is_true w log call bytes) refl refl refl refl
-  where
-    pick : (a b t u : Bool) → nat_le call.snapshot (length log) ≡ a → is_decided w log call ≡ b → takes_arguments (procedure_of w log call) call.args ≡ t → is_true w log call bytes ≡ u → P (tested w log call a b t u)
-    pick false b t u ea eb et eu = nothing cause.Snapshot
-    pick true true t u ea eb et eu = decided ea eb
-    pick true false false u ea eb et eu = nothing cause.Procedure
-    pick true false true false ea eb et eu = nothing cause.Untrue
-    pick true false true true ea eb et eu = stands (record { takes = et; is = eu; stands = λ i. tested w log call (ea i) (eb i) (et i) (eu i) })
+pub by_standing : (s : SiteSetting) (known : Sessions) (log : Log) (call : Call) (bytes : List ℕ) (P : Standing → Type 0) → ((c : NothingCause) → P (IsNothing c))
+    → (call.snapshot ≤ length log → is_decided s.setting log call ≡ true → P (IsDecided call))
+    → (Stands s known log call bytes → P (StandsAs (CallEntry (executed s.setting log call)))) → P (call_standing s known log call bytes)
+by_standing s known log call bytes P nothing decided stands =
+    call_cases (λ (st : Standing). call_standing s known log call bytes ≡ st → P st) s known log call bytes (λ c _. nothing c) (λ recent _ is _. decided recent is)
+    (λ well is. stands (record { in_session = well.in_session; takes = well.takes; is = well.true_to; stands = is })) refl
 
-pub stands_by : (w : Setting) (log : Log) (call : Call) (bytes : List ℕ) (replies : ℕ → ℕ) (v : Option Verdict) (reply : ℕ)
-    → outcome_of replies (call_standing w log call bytes) v ≡ outcome.Committed reply → Stands w log call bytes
-stands_by w log call bytes replies v reply =
-    by_standing w log call bytes (λ st. outcome_of replies st v ≡ outcome.Committed reply → Stands w log call bytes)
+pub stands_by : (s : SiteSetting) (known : Sessions) (log : Log) (call : Call) (bytes : List ℕ) (replies : ℕ → ℕ) (v : Option Verdict) (reply : ℕ)
+    → outcome_of replies (call_standing s known log call bytes) v ≡ outcome.Committed reply → Stands s known log call bytes
+stands_by s known log call bytes replies v reply =
+    by_standing s known log call bytes (λ st. outcome_of replies st v ≡ outcome.Committed reply → Stands s known log call bytes)
     (λ c told. absurd cc) (λ early decided told. absurd (never_by_default replies reply v told)) (λ stands told. stands)
 
 -- ---- what is settled
@@ -190,26 +184,30 @@ ordered position r bytes None is writes settled = by_count (len r.writes == 0) (
     by_count false e h = h
 
 -- what is answered where the procedure is there: a refusal, or what a run gives that was admitted
-pub by_admission : (w : Setting) (entries : List Entry) (asked : Asked) (p : StoredProcedure) (P : CallAnswer (List ℕ) → Type 0) → ((refusal : CallRefusal) → P (answer_of_admission w entries asked (Err refusal)))
-    → (length asked.args ≡ p.args_len → has_zero asked.request ≡ false → P (answer_of_admission w entries asked (Ok p))) → P (answer_for w entries asked (Some p))
-by_admission w entries asked p P refused admitted = by_answer (admission asked.args asked.request (Some p)) refl
+pub by_admission : (s : SiteSetting) (known : Sessions) (entries : List Entry) (asked : Asked) (p : StoredProcedure) (P : CallAnswer (List ℕ) → Type 0) → ((refusal : CallRefusal) → P (answer_of_admission s known entries asked (Err refusal)))
+    → (length asked.args ≡ p.args_len → has_zero asked.request ≡ false → P (answer_of_admission s known entries asked (Ok p))) → P (answer_for s known entries asked (Some p))
+by_admission s known entries asked p P refused admitted = by_answer (admission asked.args asked.request (Some p)) refl
   where
     some_is : (a b : StoredProcedure) → Some a ≡ Some b → a ≡ b
     some_is a b e = cc
 
-    by_answer : (answer : Result StoredProcedure CallRefusal) → admission asked.args asked.request (Some p) ≡ answer → P (answer_of_admission w entries asked answer)
+    by_answer : (answer : Result StoredProcedure CallRefusal) → admission asked.args asked.request (Some p) ≡ answer → P (answer_of_admission s known entries asked answer)
     by_answer (Err refusal) h = refused refusal
     by_answer (Ok q) h =
         let is = is_admitted asked.args asked.request (Some p) q h in
         let same : p ≡ q = some_is p q is.found in
-        subst (λ (x : StoredProcedure). P (answer_of_admission w entries asked (Ok x))) same (admitted (is.fits ∙ ap (λ (x : StoredProcedure). x.args_len) (sym same)) is.whole)
+        subst (λ (x : StoredProcedure). P (answer_of_admission s known entries asked (Ok x))) same (admitted (is.fits ∙ ap (λ (x : StoredProcedure). x.args_len) (sym same)) is.whole)
 
 -- an answer that is settled comes of a run that isn't
-settled_by : (w : Setting) (entries : List Entry) (asked : Asked) (p : StoredProcedure) → writes_something (run_in w (items_of entries) (asked_call (items_of entries) p asked)) ≡ true
-    → IsSettled (answer_for w entries asked (Some p)) → ⊥
-settled_by w entries asked p writes =
-    by_admission w entries asked p (λ (answer : CallAnswer (List ℕ)). IsSettled answer → ⊥) (λ refusal settled. settled) (λ fits whole. by_run (first_repeated w.beginning.requests (history w log).certified (asked_call log p asked)))
+settled_by : (s : SiteSetting) (known : Sessions) (entries : List Entry) (asked : Asked) (p : StoredProcedure) → writes_something (run_in s.setting (items_of entries) (asked_call (items_of entries) p asked)) ≡ true
+    → IsSettled (answer_for s known entries asked (Some p)) → ⊥
+settled_by s known entries asked p writes =
+    by_admission s known entries asked p (λ (answer : CallAnswer (List ℕ)). IsSettled answer → ⊥) (λ refusal settled. settled)
+    (λ fits whole. by_cause (session_cause s.origin known asked.request) (first_repeated w.beginning.requests (history w log).certified (asked_call log p asked)))
   where
+    w : Setting
+    w = s.setting
+
     log : Log
     log = items_of entries
 
@@ -218,6 +216,10 @@ settled_by w entries asked p writes =
     by_run None h =
         let run = run_in w log (asked_call log p asked) in
         ordered (length log) run (entry_bytes (CallEntry (executed w log (asked_call log p asked)))) run.cancel_code refl writes h
+
+    by_cause : (why : Option NothingCause) (o : Option ℕ) → IsSettled (in_session (unless_repeated (reply_to w entries asked.request) (answer_of_run w log (asked_call log p asked)) o) why) → ⊥
+    by_cause (Some why) o h = h
+    by_cause None o h = by_run o h
 
 -- ---- the run of what was asked
 
@@ -239,21 +241,17 @@ abbrev pub OneMoreFits : Type 0
 OneMoreFits = (w : Setting) (log : Log) (item : Item) → IsLog log → AllFitLog w log → IsPlaced (length log) item → FitsLog w log item → AllFitLog w (log ++ item ∷ [])
 
 abbrev pub NextFits : Type 0
-NextFits = (s : SiteSetting) (entries : List Entry) (bytes : List ℕ) → All (λ b. b < 256) bytes
-    → ((p : StoredProcedure) → standing s (items_of entries) bytes ≡ StandsAs (AdditionEntry p) → IsSafe s.setting.tables p)
-    → FitsLog s.setting (items_of entries) (item_of (next_entry s entries bytes))
-
-pub by_head : (s : SiteSetting) (log : Log) (bytes : List ℕ) (call : Call) (told : ℕ) → head_of bytes ≡ Some (CallHead call told) → standing s log bytes ≡ call_standing s.setting log call bytes
-unfolding standing
-by_head s log bytes call told head = ap (standing_of_head s log bytes) head
+NextFits = (s : SiteSetting) (known : Sessions) (entries : List Entry) (bytes : List ℕ) → All (λ b. b < 256) bytes
+    → ((p : StoredProcedure) → standing s known (items_of entries) bytes ≡ StandsAs (AdditionEntry p) → IsSafe s.setting.tables p)
+    → FitsLog s.setting (items_of entries) (item_of (next_entry s known entries bytes))
 
 pub settled_answer : (s : SiteSetting) (order : Order) (asked : Asked) → call_answer s order asked
-    ≡ answer_for s.setting (order_entries s order) asked (by_name (procedures_after s.setting (order_log s order) (length (order_entries s order))) asked.name)
+    ≡ answer_for s (sessions_after s order) (order_entries s order) asked (by_name (procedures_after s.setting (order_log s order) (length (order_entries s order))) asked.name)
 unfolding call_answer_behind
 settled_answer s order asked = refl
 
 -- entries that go on from others, of which the last is a call that asks what was answered
-module _ (s : SiteSetting) (entries later : List Entry) (bytes : List ℕ) (call : Call) (told reply : ℕ) (asked : Asked) (p : StoredProcedure) where
+module _ (s : SiteSetting) (known now : Sessions) (entries later : List Entry) (bytes : List ℕ) (call : Call) (told reply : ℕ) (asked : Asked) (p : StoredProcedure) where
   abbrev w : Setting
   w = s.setting
 
@@ -267,19 +265,19 @@ module _ (s : SiteSetting) (entries later : List Entry) (bytes : List ℕ) (call
   as_items = map-append item_of entries later
 
   pub answered : HaveVerdicts → RunsAlike → CommitMeans → NeverLost → OneMoreFits → NextFits
-      → AreFitEntries w entries → IsLog (items_of (with_bytes s all bytes)) → All (λ b. b < 256) bytes → head_of bytes ≡ Some (CallHead call told)
+      → AreFitEntries w entries → IsLog (items_of (with_bytes s now all bytes)) → All (λ b. b < 256) bytes → head_of bytes ≡ Some (CallHead call told)
       → call.procedure ≡ p.number → call.args ≡ asked.args → call.snapshot ≤ length entries
-      → IsSettled (answer_for w entries asked (Some p)) → outcome_behind s all bytes ≡ outcome.Committed reply → ⊥
+      → IsSettled (answer_for s known entries asked (Some p)) → outcome_behind s now all bytes ≡ outcome.Committed reply → ⊥
   answered verdicts alike means lost more_fits next_fits are is_log are_bytes head number args early settled commits =
       let es = executed w (items_of all) call in
-      let by = by_head s (items_of all) bytes call told head in
-      let st = stands_by w (items_of all) call bytes (replies_to s (with_bytes s all bytes) bytes) (verdict_of w (items_of (with_bytes s all bytes)) (length all + 1)) reply
-      (sym (ap (λ (x : Standing). outcome_of (replies_to s (with_bytes s all bytes) bytes) x (verdict_of w (items_of (with_bytes s all bytes)) (length all + 1))) by) ∙ commits) in
-      let stands : standing s (items_of all) bytes ≡ StandsAs (CallEntry es) = by ∙ st.stands in
-      let there = commits_there s all bytes verdicts es reply stands commits in
-      let next : next_entry s all bytes ≡ CallEntry es = ap (entry_standing w (items_of all)) stands in
-      let items : items_of (with_bytes s all bytes) ≡ (log ++ items_of later) ++ CallItem call ∷ [] =
-      map-append item_of all (next_entry s all bytes ∷ []) ∙ ap (λ (e : Entry). items_of all ++ item_of e ∷ []) next ∙ ap (λ (l : Log). l ++ CallItem call ∷ []) as_items in
+      let by = stands_as_call s now (items_of all) bytes call told head in
+      let st = stands_by s now (items_of all) call bytes (replies_to s (with_bytes s now all bytes) bytes) (verdict_of w (items_of (with_bytes s now all bytes)) (length all + 1)) reply
+      (sym (ap (λ (x : Standing). outcome_of (replies_to s (with_bytes s now all bytes) bytes) x (verdict_of w (items_of (with_bytes s now all bytes)) (length all + 1))) by) ∙ commits) in
+      let stands : standing s now (items_of all) bytes ≡ StandsAs (CallEntry es) = by ∙ st.stands in
+      let there = commits_there s now all bytes verdicts es reply stands commits in
+      let next : next_entry s now all bytes ≡ CallEntry es = ap (entry_standing w (items_of all)) stands in
+      let items : items_of (with_bytes s now all bytes) ≡ (log ++ items_of later) ++ CallItem call ∷ [] =
+      map-append item_of all (next_entry s now all bytes ∷ []) ∙ ap (λ (e : Entry). items_of all ++ item_of e ∷ []) next ∙ ap (λ (l : Log). l ++ CallItem call ∷ []) as_items in
       let long_is : IsLog ((log ++ items_of later) ++ CallItem call ∷ []) = subst IsLog items is_log in
       let counted : length all ≡ length (log ++ items_of later) = sym (length-map all item_of) ∙ ap length as_items in
       let commit : verdict_of w ((log ++ items_of later) ++ CallItem call ∷ []) (suc (length (log ++ items_of later))) ≡ Some verdict.Commit =
@@ -289,28 +287,28 @@ module _ (s : SiteSetting) (entries later : List Entry) (bytes : List ℕ) (call
       let short_is : IsLog (log ++ CallItem call ∷ []) = is_log_snoc 0 log (CallItem call) are.log (let e : call.snapshot ≤ 0 + length log = omega (arith, early_log) in e) in
       -- the call fits
       let fits_all : FitsLog w (items_of all) (CallItem call) =
-      subst (λ (e : Entry). FitsLog w (items_of all) (item_of e)) next (next_fits s all bytes are_bytes (λ q is. absurd (not_added es q (sym stands ∙ is)))) in
+      subst (λ (e : Entry). FitsLog w (items_of all) (item_of e)) next (next_fits s now all bytes are_bytes (λ q is. absurd (not_added es q (sym stands ∙ is)))) in
       let grown : procedures_after w (items_of all) call.snapshot ≡ procedures_after w log call.snapshot =
       ap (λ (l : Log). procedures_after w l call.snapshot) as_items ∙ procedures_grown w log (items_of later) call.snapshot early_log in
       let fits : FitsLog w log (CallItem call) = subst (λ (ps : Catalogue). FitsProcedures ps call) grown fits_all in
       let fit_short = more_fits w log (CallItem call) are.log are.items early_log fits in
       -- its run
       let run = runs_alike w log (items_of later) call early_log means alike are.begins short_is long_is fit_short commit in
-      let (q, known_all) = known_by (procedure_of w (items_of all) call) call.args st.takes in
-      let known : by_number (procedures_after w log call.snapshot) call.procedure ≡ Some q =
-      ap (λ (ps : Catalogue). by_number ps call.procedure) (sym grown) ∙ known_all in
-      let known_now : by_number (procedures_after w log (length log)) p.number ≡ Some q =
+      let (q, found_all) = known_by (procedure_of w (items_of all) call) call.args st.takes in
+      let found : by_number (procedures_after w log call.snapshot) call.procedure ≡ Some q =
+      ap (λ (ps : Catalogue). by_number ps call.procedure) (sym grown) ∙ found_all in
+      let found_now : by_number (procedures_after w log (length log)) p.number ≡ Some q =
       subst (λ (n : ℕ). by_number (procedures_after w log (length log)) n ≡ Some q) number
-      (lost w log call.snapshot (length log) call.procedure q are.log early_log (omega arith) known) in
+      (lost w log call.snapshot (length log) call.procedure q are.log early_log (omega arith) found) in
       let rows : rows_after w (log ++ CallItem call ∷ []) (length log) ≡ rows_after w log (length log) = rows_grown w log (CallItem call ∷ []) (length log) (omega arith) in
-      let same = same_runs w log call (asked_call log p asked) q (rows_after w log (length log)) early_log known known_now args (CallItem call) in
+      let same = same_runs w log call (asked_call log p asked) q (rows_after w log (length log)) early_log found found_now args (CallItem call) in
       let as_asked : same_on (rows_after w (log ++ CallItem call ∷ []) (length log)) (run_in w (log ++ CallItem call ∷ []) call) ≡ run_in w log (asked_call log p asked) =
       sym run ∙ ap (run_on w (log ++ CallItem call ∷ []) call) rows ∙ same in
       let there_and_here : run_in w (log ++ CallItem call ∷ []) call ≡ run_in w (items_of all) call =
       run_grown w log (CallItem call ∷ []) call early_log ∙ sym (ap (λ (l : Log). run_in w l call) as_items ∙ run_grown w log (items_of later) call early_log) in
       let wrote : writes_something (run_in w (log ++ CallItem call ∷ []) call) ≡ true =
       ap writes_something there_and_here ∙ writes_by (writes_something (run_in w (items_of all) call)) (bytes_eq bytes (entry_bytes (CallEntry es))) st.is in
-      settled_by w entries asked p (sym (ap writes_something as_asked) ∙ wrote) settled
+      settled_by s known entries asked p (sym (ap writes_something as_asked) ∙ wrote) settled
     where
       not_added : (e : ExecutedCall) (q : StoredProcedure) → StandsAs (CallEntry e) ≡ StandsAs (AdditionEntry q) → ⊥
       not_added e q same = absurd cc

@@ -6,7 +6,7 @@ ghost use Rattle.log_model.specs.Entries.{CallEntry, Entry, ExecutedCall};
 ghost use Rattle.site_model.specs.declared.outcome.EntryOutcome.TheVariants.{Committed};
 ghost use Rattle.site_model.specs.Fit.{AreFitEntries};
 ghost use Rattle.site_model.specs.Standing.{SiteSetting, StandsAs, standing};
-ghost use Rattle.site_model.specs.Order.{Order, next_outcome, order_entries, order_log};
+ghost use Rattle.site_model.specs.Order.{Order, next_outcome, order_entries, order_log, sessions_after};
 ghost use Rattle.site_laws.specs.Serial.{RunsNext};
 
 use dsm_model::{entries_carry_serial_replies, rows_after_each_call};
@@ -36,7 +36,7 @@ pub fn orders_have_logs()
 pub fn rows_after_each_byte_string()
     ensures committed { (s : SiteSetting) (order : Order) (bytes : List ℕ) (e : ExecutedCall) (reply : ℕ)
         → AreFitEntries s.setting (order_entries s (order ++ bytes ∷ []))
-        → standing s (order_log s order) bytes ≡ StandsAs (CallEntry e)
+        → standing s (sessions_after s order) (order_log s order) bytes ≡ StandsAs (CallEntry e)
         → next_outcome s order bytes ≡ Committed reply → RunsNext s order bytes e.call reply }
     ensures others { (s : SiteSetting) (order : Order) (bytes : List ℕ)
         → ((reply : ℕ) → next_outcome s order bytes ≢ Committed reply)
@@ -57,8 +57,10 @@ pub fn rows_after_each_byte_string()
 /// Two byte strings with one request never both commit.
 pub fn each_request_commits_once_in_an_order()
     ensures { (s : SiteSetting) (first between : Order) (a b : List ℕ) (x y : ExecutedCall) (reply other : ℕ)
-        → standing s (order_log s first) a ≡ StandsAs (CallEntry x) → next_outcome s first a ≡ Committed reply
-        → standing s (order_log s (first ++ a ∷ between)) b ≡ StandsAs (CallEntry y)
+        → standing s (sessions_after s first) (order_log s first) a ≡ StandsAs (CallEntry x)
+        → next_outcome s first a ≡ Committed reply
+        → standing s (sessions_after s (first ++ a ∷ between)) (order_log s (first ++ a ∷ between)) b
+        ≡ StandsAs (CallEntry y)
         → IsTrue (same_request x.call.request y.call.request)
         → next_outcome s (first ++ a ∷ between) b ≢ Committed other }
 {

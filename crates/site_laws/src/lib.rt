@@ -18,7 +18,10 @@ pub use own::{
 };
 pub use procedures::{procedures_after_each_byte_string, procedures_only_grow};
 pub use refusals::refusals_hold_for_good;
-pub use settled::{what_was_answered_commits_no_more, what_was_refused_commits_no_more};
+pub use settled::{
+    what_is_out_of_session_commits_no_more, what_was_answered_commits_no_more,
+    what_was_refused_commits_no_more,
+};
 
 mod agreement;
 mod fitting;

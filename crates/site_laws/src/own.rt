@@ -1,6 +1,6 @@
 //! The bytes that a site gave to be ordered, when they come back.
 
-ghost use Rattle.std.specs.Prelude.{◌≡◌, ◌≢◌, ◌<◌, ◌≤◌, ◌^◌, ℕ, ◌++◌, List, length};
+ghost use Rattle.std.specs.Prelude.{◌≡◌, ◌≢◌, ◌↔◌, ◌<◌, ◌≤◌, ◌^◌, ℕ, ◌++◌, List, length, None, Some};
 ghost use Rattle.bpf_code.specs.Program.{Program};
 ghost use Rattle.bpf_bytes.specs.Spelling.{spelling};
 ghost use Rattle.schema.specs.declared.limits.TheConstants.{MAX_ARGUMENTS};
@@ -13,10 +13,12 @@ ghost use Rattle.log_entry.specs.Head.{NamedProcedure};
 ghost use Rattle.site_model.specs.declared.answer.AdditionAnswer.TheVariants.{Submitted as AddSubmitted};
 ghost use Rattle.site_model.specs.declared.answer.CallAnswer.TheVariants.{Submitted};
 ghost use Rattle.site_model.specs.declared.cause.NothingCause.{NothingCause};
+ghost use Rattle.site_model.specs.declared.cause.NothingCause.TheVariants.{Superseded};
 ghost use Rattle.site_model.specs.declared.outcome.EntryOutcome.TheVariants.{Committed, Nothing};
 ghost use Rattle.site_model.specs.Answer.{Asked, addition_answer, asked_call, call_answer, stored_as};
+ghost use Rattle.site_model.specs.Sessions.{session_cause};
 ghost use Rattle.site_model.specs.Standing.{SiteSetting};
-ghost use Rattle.site_model.specs.Order.{Order, next_outcome, order_log};
+ghost use Rattle.site_model.specs.Order.{Order, next_outcome, order_log, sessions_after};
 ghost use Rattle.site_laws.specs.Orders.{IsBytes, IsOfBytes, IsSiteSetting};
 ghost use Rattle.site_model.specs.Own.{IsAskedOf};
 ghost use Rattle.site_laws.specs.Own.{IsFree};
@@ -28,25 +30,35 @@ use bpf_semantics::states_fit;
 use log_entry::entries_have_their_heads;
 use log_model::{each_call_has_a_verdict, logs_whose_calls_fit, verdicts_in_words_of_the_log};
 use program_checks::programs_pass_where_they_are_accepted;
-use site_model::orders_grow;
+use site_model::{orders_grow, sessions_go_on};
 
-/// The bytes that a call was answered behind an order, to be ordered, aren't nothing wherever that order goes on. The
-/// premises are that the procedure has a number of its own and the call's numbers and lengths fit their fields
-/// (`IsAskedOf`).
+/// The bytes that a call was answered behind an order, to be ordered, aren't nothing wherever that order goes on, but
+/// for one cause. They are superseded exactly where the call's session has done a request of a greater number since.
+/// An order without an origin supersedes none. The premises are that the procedure has a number of its own and the
+/// call's numbers and lengths fit their fields (`IsAskedOf`).
 pub fn own_calls_are_not_nothing()
-    ensures { (s : SiteSetting) (order more : Order) (asked : Asked) (bytes : List ℕ) (cause : NothingCause)
-        → IsAskedOf s order asked → call_answer s order asked ≡ Submitted bytes
+    ensures others { (s : SiteSetting) (order more : Order) (asked : Asked) (bytes : List ℕ) (cause : NothingCause)
+        → IsAskedOf s order asked → call_answer s order asked ≡ Submitted bytes → cause ≢ Superseded
         → next_outcome s (order ++ more) bytes ≢ Nothing cause }
+    ensures without_origin { (s : SiteSetting) (order more : Order) (asked : Asked) (bytes : List ℕ)
+        (cause : NothingCause)
+        → IsAskedOf s order asked → call_answer s order asked ≡ Submitted bytes → s.origin ≡ None
+        → next_outcome s (order ++ more) bytes ≢ Nothing cause }
+    ensures superseded { (s : SiteSetting) (order more : Order) (asked : Asked) (bytes : List ℕ)
+        → IsAskedOf s order asked → call_answer s order asked ≡ Submitted bytes
+        → (next_outcome s (order ++ more) bytes ≡ Nothing Superseded)
+        ↔ (session_cause s.origin (sessions_after s (order ++ more)) asked.request ≡ Some Superseded) }
 {
     // Laws:
     beginnings_have_the_same_entries();
     entries_have_their_heads();
-    orders_grow();
+    sessions_go_on();
 }
 
 /// A call that was answered by bytes is as `IsAskedOf` says. The call's procedure has a number of its own, and its
-/// numbers and lengths fit their fields. Its bytes therefore aren't nothing wherever the order goes on. The premises
-/// are a setting as sites have them, fewer than 2^32 byte strings, arguments of bytes, and a request within its fields.
+/// numbers and lengths fit their fields. Its bytes therefore aren't nothing wherever the order goes on, unless they are
+/// superseded, and an order without an origin supersedes none. The premises are a setting as sites have them, fewer
+/// than 2^32 byte strings, arguments of bytes, and a request within its fields.
 pub fn calls_of_sites_fit_their_fields()
     ensures asked { (s : SiteSetting) (order : Order) (asked : Asked) (bytes : List ℕ)
         → IsSiteSetting s.setting → IsOfBytes order → length order < 2 ^ 32 → IsBytes asked.args
@@ -55,7 +67,14 @@ pub fn calls_of_sites_fit_their_fields()
     ensures something { (s : SiteSetting) (order more : Order) (asked : Asked) (bytes : List ℕ) (cause : NothingCause)
         → IsSiteSetting s.setting → IsOfBytes order → length order < 2 ^ 32 → IsBytes asked.args
         → session_of asked.request < 2 ^ 32 → sequence_of asked.request < 2 ^ 32
-        → call_answer s order asked ≡ Submitted bytes → next_outcome s (order ++ more) bytes ≢ Nothing cause }
+        → call_answer s order asked ≡ Submitted bytes → cause ≢ Superseded
+        → next_outcome s (order ++ more) bytes ≢ Nothing cause }
+    ensures without_origin { (s : SiteSetting) (order more : Order) (asked : Asked) (bytes : List ℕ)
+        (cause : NothingCause)
+        → IsSiteSetting s.setting → IsOfBytes order → length order < 2 ^ 32 → IsBytes asked.args
+        → session_of asked.request < 2 ^ 32 → sequence_of asked.request < 2 ^ 32
+        → call_answer s order asked ≡ Submitted bytes → s.origin ≡ None
+        → next_outcome s (order ++ more) bytes ≢ Nothing cause }
 {
     // Laws:
     logs_whose_calls_fit();

@@ -1,13 +1,17 @@
 //! The commits that answers rule out.
 
-ghost use Rattle.std.specs.Prelude.{◌≡◌, ◌≢◌, ◌<◌, ℕ, ◌∷◌, ◌++◌, List, All, Some};
+ghost use Rattle.std.specs.Prelude.{◌≡◌, ◌≢◌, ◌<◌, ℕ, ◌∷◌, ◌++◌, List, All, Some, true};
+ghost use Rattle.log_model.specs.declared.request.RequestId.{RequestId};
 ghost use Rattle.log_model.specs.Log.{Call};
 ghost use Rattle.log_entry.specs.Head.{CallHead, head_of};
+ghost use Rattle.site_model.specs.declared.answer.CallAnswer.TheVariants.{OutOfSession};
+ghost use Rattle.site_model.specs.declared.origin.Origin.{Origin};
 ghost use Rattle.site_model.specs.declared.outcome.EntryOutcome.TheVariants.{Committed, Conflict, Stale};
 ghost use Rattle.site_model.specs.Answer.{Asked, call_answer};
 ghost use Rattle.site_model.specs.Fit.{AreFitEntries};
+ghost use Rattle.site_model.specs.Sessions.{is_known};
 ghost use Rattle.site_model.specs.Standing.{SiteSetting};
-ghost use Rattle.site_model.specs.Order.{Order, next_outcome, order_entries};
+ghost use Rattle.site_model.specs.Order.{Order, next_outcome, order_entries, sessions_after};
 ghost use Rattle.site_laws.specs.Settled.{AsksAgain, AsksTheSame, IsSettled};
 
 use crate::laws::{beginnings_have_the_same_entries, orders_have_logs};
@@ -15,7 +19,7 @@ use log_model::{
     each_call_has_a_verdict, logs_whose_calls_fit, procedures_are_never_lost,
     verdicts_in_words_of_the_log,
 };
-use site_model::{orders_grow, what_stands_is_of_the_log};
+use site_model::{orders_grow, sessions_go_on, what_stands_is_of_the_log};
 
 /// A call that was answered by a read or a cancellation behind an order settles what is asked. No byte string that asks
 /// the same, on rows that aren't newer, commits where that order goes on, whatever its request.
@@ -62,4 +66,21 @@ pub fn what_was_refused_commits_no_more()
     procedures_are_never_lost();
     verdicts_in_words_of_the_log();
     what_stands_is_of_the_log();
+}
+
+/// A request that was answered as out of its session, where that session is known, is superseded for good. No byte
+/// string of a call with that request commits where the order goes on. The number of a session's last request never
+/// falls.
+pub fn what_is_out_of_session_commits_no_more()
+    ensures { (s : SiteSetting) (order more : Order) (bytes : List ℕ) (asked : Asked) (origin : Origin)
+        (request : RequestId) (call : Call) (told reply : ℕ)
+        → s.origin ≡ Some origin → asked.request ≡ Some request
+        → call_answer s order asked ≡ OutOfSession
+        → is_known origin (sessions_after s order) request.session ≡ true
+        → head_of bytes ≡ Some (CallHead call told) → call.request ≡ Some request
+        → next_outcome s (order ++ more) bytes ≢ Committed reply }
+{
+    // Laws:
+    orders_grow();
+    sessions_go_on();
 }

@@ -1,11 +1,13 @@
 -- Orders, their logs, and the sessions behind them.
-use Rattle.std.proofs.Common.{◌≡◌, ℕ, ◌+◌, List, [], ◌∷◌, ◌++◌, length, refl, ap, ◌∙◌, arith}
+use Rattle.std.proofs.Common.{◌≡◌, ℕ, ◌+◌, ◌≤◌, List, [], ◌∷◌, ◌++◌, length, refl, ap, ◌∙◌, arith}
 use Rattle.std.specs.List.{fold}
 use Rattle.std.proofs.lemmas.List.{length-append}
 use Rattle.std.proofs.lemmas.List.Sums.{fold-append}
-use Rattle.site_model.specs.Sessions.{Sessions, lasts_of, sessions_with}
+use Rattle.site_model.specs.declared.outcome.EntryOutcome.{EntryOutcome}
+use Rattle.site_model.specs.declared.outcome.EntryOutcome.TheVariants as outcome
+use Rattle.site_model.specs.Sessions.{Sessions, lasts_of, opened_with, sessions_with}
 use Rattle.site_model.specs.Standing.{SiteSetting}
-use Rattle.site_model.specs.Order.{Order, Followed, before_order, followed, followed_by, next_outcome, order_entries, sessions_after, with_bytes}
+use Rattle.site_model.specs.Order.{Order, Followed, before_order, followed, followed_by, next_outcome, order_entries, outcome_behind, sessions_after, with_bytes}
 
 pub first_entries : (s : SiteSetting) → order_entries s [] ≡ []
 unfolding followed
@@ -35,3 +37,24 @@ count_from s f (bytes ∷ order) =
 pub count_entries : (s : SiteSetting) (order : Order) → length (order_entries s order) ≡ length order
 unfolding followed
 count_entries s order = count_from s (before_order s) order ∙ (let none : 0 + length order ≡ length order = omega arith in none)
+
+opens_one : (opened : ℕ) (o : EntryOutcome) → opened_with opened o ≤ opened + 1
+opens_one opened (outcome.Session session) = omega arith
+opens_one opened (outcome.Committed reply) = omega arith
+opens_one opened (outcome.Conflict position) = omega arith
+opens_one opened outcome.Stale = omega arith
+opens_one opened (outcome.Repeated position reply) = omega arith
+opens_one opened (outcome.Added number) = omega arith
+opens_one opened (outcome.Taken identifier) = omega arith
+opens_one opened (outcome.Nothing cause) = omega arith
+
+opened_from : (s : SiteSetting) (f : Followed) (order : Order) → (fold (followed_by s) f order).sessions.opened ≤ f.sessions.opened + length order
+opened_from s f [] = omega arith
+opened_from s f (bytes ∷ order) =
+    let more = opened_from s (followed_by s f bytes) order in
+    let one = opens_one f.sessions.opened (outcome_behind s f.sessions f.entries bytes) in
+    omega arith
+
+pub opened_few : (s : SiteSetting) (order : Order) → (sessions_after s order).opened ≤ length order
+unfolding followed
+opened_few s order = let few = opened_from s (before_order s) order in omega arith

@@ -23,12 +23,13 @@ pub fn orders_grow()
 {}
 
 /// Before an order each session has done last what its request before says, and no session is opened. Each byte string of
-/// the order changes that by its outcome.
+/// the order changes that by its outcome, and opens one session at most.
 pub fn sessions_go_on()
     ensures first { (s : SiteSetting) → sessions_after s []
         ≡ record { opened = 0; lasts = lasts_of s.setting.beginning.requests } }
     ensures next { (s : SiteSetting) (order : Order) (bytes : List ℕ) → sessions_after s (order ++ bytes ∷ [])
         ≡ sessions_with (sessions_after s order) bytes (next_outcome s order bytes) }
+    ensures count { (s : SiteSetting) (order : Order) → (sessions_after s order).opened ≤ length order }
 {}
 
 /// The entry at the next position has a snapshot before it, carries its run, and fits the log. A procedure that the

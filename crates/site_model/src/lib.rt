@@ -3,7 +3,7 @@
 
 pub use answer::{AdditionAnswer, AdditionRefusal, CallAnswer};
 pub use cause::NothingCause;
-pub use laws::{fit_entries_go_on, sessions_go_on, orders_grow, what_stands_is_of_the_log};
+pub use laws::{fit_entries_go_on, orders_grow, sessions_go_on, what_stands_is_of_the_log};
 pub use origin::Origin;
 pub use outcome::EntryOutcome;
 

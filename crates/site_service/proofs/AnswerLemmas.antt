@@ -1,5 +1,5 @@
 -- Answers, by what the code's values stand for.
-use Rattle.std.proofs.Common.{◌≡◌, ◌⊎◌, inl, inr, ◌≢◌, ne_eqb, ℕ, ◌+◌, ◌==◌, Bool, false, cond, List, [], ◌∷◌, ◌++◌, length, Option, Result, Ok, Err, sym, ap, subst, ◌∙◌}
+use Rattle.std.proofs.Common.{◌≡◌, ◌⊎◌, inl, inr, ℕ, ◌+◌, Bool, true, false, cond, List, [], ◌∷◌, ◌++◌, length, Option, Result, Ok, Err, sym, ap, subst, ◌∙◌}
 use Rattle.log_model.specs.declared.request.RequestId.{RequestId}
 use Rattle.log_entry.specs.Head.{head_of}
 use Rattle.script.specs.declared.fault.LineFault.{LineFault}
@@ -10,22 +10,31 @@ use Rattle.site_model.specs.Order.{Order, next_outcome, request_in}
 use Rattle.site_service.specs.declared.line.SiteLine.TheVariants.{Call}
 use Rattle.site_service.specs.Lines.{SiteRequest}
 use Rattle.site_service.specs.Answers.{entry_line, order_full_line}
-use Rattle.site_service.specs.declared.entry.TheConstants.{MAX_POSITION}
-use Rattle.site_service.specs.LineAnswers.{IsAnswer, IsCallAnswer, entry_answer, order_with_bytes}
+use Rattle.site_service.specs.LineAnswers.{IsAnswer, IsCallAnswer, entry_answer, is_full, order_with_bytes}
 
 -- ---- a byte string
 
-pub entry_answered : (A : List ℕ → Type 0) (s : SiteSetting) (order : Order) (bytes : List ℕ) (position : ℕ) (o : EntryOutcome) (r : Option RequestId) → position ≡ length order → position ≢ MAX_POSITION
-    → o ≡ next_outcome s order bytes → r ≡ request_in (head_of bytes) → A (entry_line (position + 1) o r) → A (entry_answer s order bytes)
-entry_answered A s order bytes position o r count room told request given =
-    let tested : (length order == MAX_POSITION) ≡ false = sym (ap (λ (n : ℕ). n == MAX_POSITION) count) ∙ ne_eqb position MAX_POSITION room in
-    subst A (ap (λ (n : ℕ). entry_line (n + 1) o r) count ∙ (λ i. entry_line (length order + 1) (told i) (request i))
-    ∙ sym (ap (λ (b : Bool). cond b order_full_line (entry_line (length order + 1) (next_outcome s order bytes) (request_in (head_of bytes)))) tested)) given
+module _ (s : SiteSetting) (order : Order) (bytes : List ℕ) (position : ℕ) (count : position ≡ length order) (room : is_full s position ≡ false) where
+  tested : is_full s (length order) ≡ false
+  tested = sym (ap (is_full s) count) ∙ room
 
-pub stands_with : (P : Order → Type 0) (order : Order) (bytes : List ℕ) (position : ℕ) → position ≡ length order → position ≢ MAX_POSITION → P (order ++ bytes ∷ []) → P (order_with_bytes order bytes)
-stands_with P order bytes position count room stands =
-    let tested : (length order == MAX_POSITION) ≡ false = sym (ap (λ (n : ℕ). n == MAX_POSITION) count) ∙ ne_eqb position MAX_POSITION room in
-    subst P (sym (ap (λ (b : Bool). cond b order (order ++ bytes ∷ [])) tested)) stands
+  pub entry_answered : (A : List ℕ → Type 0) (o : EntryOutcome) (r : Option RequestId) → o ≡ next_outcome s order bytes → r ≡ request_in (head_of bytes) → A (entry_line (position + 1) o r) → A (entry_answer s order bytes)
+  entry_answered A o r told request given =
+      subst A (ap (λ (n : ℕ). entry_line (n + 1) o r) count ∙ (λ i. entry_line (length order + 1) (told i) (request i))
+      ∙ sym (ap (λ (b : Bool). cond b order_full_line (entry_line (length order + 1) (next_outcome s order bytes) (request_in (head_of bytes)))) tested)) given
+
+  pub stands_with : (P : Order → Type 0) → P (order ++ bytes ∷ []) → P (order_with_bytes s order bytes)
+  stands_with P stands = subst P (sym (ap (λ (b : Bool). cond b order (order ++ bytes ∷ [])) tested)) stands
+
+module _ (s : SiteSetting) (order : Order) (bytes : List ℕ) (position : ℕ) (count : position ≡ length order) (full : is_full s position ≡ true) where
+  no_room : is_full s (length order) ≡ true
+  no_room = sym (ap (is_full s) count) ∙ full
+
+  pub full_answered : (A : List ℕ → Type 0) → A order_full_line → A (entry_answer s order bytes)
+  full_answered A given = subst A (sym (ap (λ (b : Bool). cond b order_full_line (entry_line (length order + 1) (next_outcome s order bytes) (request_in (head_of bytes)))) no_room)) given
+
+  pub stands_without : (P : Order → Type 0) → P order → P (order_with_bytes s order bytes)
+  stands_without P stands = subst P (sym (ap (λ (b : Bool). cond b order (order ++ bytes ∷ [])) no_room)) stands
 
 -- ---- what a line asks for
 

@@ -19,13 +19,13 @@ nothing_answered_of s order lines none = subst (λ ls. AreAnswers s order ls [])
 
 pub first_answered : (s : SiteSetting) (order : Order) (line : List ℕ) (lines : List (List ℕ)) (here rest : List ℕ)
     → IsLineAnswer s order (line_says line) here
-    → AreAnswers s (order_behind order (line_says line)) lines rest → AreAnswers s order (line ∷ lines) (here ++ rest)
+    → AreAnswers s (order_behind s order (line_says line)) lines rest → AreAnswers s order (line ∷ lines) (here ++ rest)
 unfolding AreAnswers
 first_answered s order line lines here rest answer behind = (here, rest, answer, refl, behind)
 
 -- some lines are answered, and those behind them
 pub answered_behind : (s : SiteSetting) (order : Order) (lines others : List (List ℕ)) (text more : List ℕ)
-    → AreAnswers s order lines text → AreAnswers s (order_after order lines) others more → AreAnswers s order (lines ++ others) (text ++ more)
+    → AreAnswers s order lines text → AreAnswers s (order_after s order lines) others more → AreAnswers s order (lines ++ others) (text ++ more)
 unfolding AreAnswers
 answered_behind s order [] others text more none behind = subst (AreAnswers s order others) (ap (λ (t : List ℕ). t ++ more) (sym none)) behind
 answered_behind s order (line ∷ lines) others text more (here, rest, answer, split, then) behind = (
@@ -33,11 +33,11 @@ answered_behind s order (line ∷ lines) others text more (here, rest, answer, s
   rest ++ more,
   answer,
   ap (λ (t : List ℕ). t ++ more) split ∙ append_assoc here rest more,
-  answered_behind s (order_behind order (line_says line)) lines others rest more then behind,
+  answered_behind s (order_behind s order (line_says line)) lines others rest more then behind,
 )
 
-pub order_after_more : (order : Order) (lines more : List (List ℕ)) → order_after order (lines ++ more) ≡ order_after (order_after order lines) more
-order_after_more order lines more = fold-append (λ so_far l. order_behind so_far (line_says l)) order lines more
+pub order_after_more : (s : SiteSetting) (order : Order) (lines more : List (List ℕ)) → order_after s order (lines ++ more) ≡ order_after (order_after s order lines) more
+order_after_more s order lines more = fold-append (λ so_far l. order_behind s so_far (line_says l)) order lines more
 
 -- ---- whatever is asked there is an answer
 
@@ -58,5 +58,5 @@ pub can_answer_lines : (s : SiteSetting) (order : Order) (lines : List (List ℕ
 can_answer_lines s order [] = ([], nothing_answered s order)
 can_answer_lines s order (line ∷ lines) =
     let here = can_answer_line s order (line_says line) in
-    let rest = can_answer_lines s (order_behind order (line_says line)) lines in
+    let rest = can_answer_lines s (order_behind s order (line_says line)) lines in
     (here.0 ++ rest.0, first_answered s order line lines here.0 rest.0 here.1 rest.1)

@@ -86,7 +86,7 @@ leaves_whole U count s bytes old new (text, answers, written) = (text, answers, 
 -- the answers to the first of the lines are a beginning of those to all
 first_begin : (s : SiteSetting) (bytes : List ℕ) (old new : Option (List ℕ)) (status count : ℕ) → status ≡ FAILED → AnswersFirst s bytes old new count → Leaves s bytes old new status
 first_begin s bytes old new status count failed first =
-    let rest = can_answer_lines s (order_after [] first.lines) first.others in (
+    let rest = can_answer_lines s (order_after s [] first.lines) first.others in (
       first.text ++ rest.0,
       subst (λ ls. AreAnswers s [] ls (first.text ++ rest.0)) (sym first.split)
           (answered_behind s [] first.lines first.others first.text rest.0 first.answers rest.1),

@@ -44,7 +44,7 @@ module _ (s : SiteSetting) (order : Order) (bytes : List ℕ) (left : Option (Li
     (site : SiteReplica) (number : ℕ) (so_far : ComesTo s order bytes left first IsPutOut site number)
     (together : (t u : List ℕ) → IsPutOut t → IsPutOutBehind u → IsPutOutInAll (t ++ u)) (begun : (t u : List ℕ) → IsPutOut t → IsBegun u → IsBegunInAll (t ++ u)) where
   abbrev behind : Order
-  behind = order_after order so_far.lines
+  behind = order_after s order so_far.lines
 
   in_all : (lines others : List (List ℕ)) → whole_lines so_far.rest ≡ lines ++ others → whole_lines bytes ≡ (so_far.lines ++ lines) ++ others
   in_all lines others split = so_far.split ∙ ap (λ (t : List (List ℕ)). so_far.lines ++ t) split ∙ sym (append_assoc so_far.lines lines others)
@@ -75,7 +75,7 @@ module _ (s : SiteSetting) (order : Order) (bytes : List ℕ) (left : Option (Li
     text = so_far.text ++ more.text;
     answers = answered_behind s order so_far.lines more.lines so_far.text more.text so_far.answers more.answers;
     put_out = together so_far.text more.text so_far.put_out more.put_out;
-    stands = subst (StandsForOrder next) (sym (order_after_more order so_far.lines more.lines)) more.stands;
+    stands = subst (StandsForOrder next) (sym (order_after_more s order so_far.lines more.lines)) more.stands;
   }
 
   pub goes_by : {A : Type 0} (now : Option (List ℕ)) (result : Result (Option (Progress A)) Stop) → GivesLines s behind so_far.rest now number IsPutOutBehind IsBegun result
@@ -135,7 +135,7 @@ module _ (s : SiteSetting) (order : Order) (bytes : List ℕ) (left : Option (Li
   begun_of : (lines others : List (List ℕ)) (text : List ℕ) → whole_lines bytes ≡ lines ++ others → AreAnswers s order lines text → IsPutOut text
       → (all : List ℕ) × AreAnswers s order (whole_lines bytes) all × IsBegun all
   begun_of lines others text split answers put_out =
-      let rest = can_answer_lines s (order_after order lines) others in (
+      let rest = can_answer_lines s (order_after s order lines) others in (
         text ++ rest.0,
         subst (λ ls. AreAnswers s order ls (text ++ rest.0)) (sym split) (answered_behind s order lines others text rest.0 answers rest.1),
         begins text rest.0 put_out,
@@ -168,19 +168,19 @@ wrote_some start new left text more same given = subst (λ (t : Option (List ℕ
 -- more is appended to a sink
 pub appended_onto : {W A : Type 0} (contents : W → Option (List ℕ)) (a b c : OutputSink W) (s t : SiteSetting) (order : Order) (bytes : List ℕ) (left now : Option (List ℕ)) (first number : ℕ) (site : SiteReplica)
     → (so_far : ComesTo s order bytes left first (HasTakenMore contents a b) site number) (result : Result (Option (Progress A)) Stop) → t ≡ s
-    → GivesLines t (order_after order so_far.lines) so_far.rest now number (HasTakenMore contents b c) IsNoText result → GivesLines s order bytes now first (HasTakenMore contents a c) IsNoText result
+    → GivesLines t (order_after s order so_far.lines) so_far.rest now number (HasTakenMore contents b c) IsNoText result → GivesLines s order bytes now first (HasTakenMore contents a c) IsNoText result
 appended_onto contents a b c s t order bytes left now first number site so_far result same given =
     goes_by s order bytes left first (HasTakenMore contents a b) (HasTakenMore contents b c) (HasTakenMore contents a c) IsNoText IsNoText site number so_far (taken_together contents a b c) (λ t u put_out none. none)
-    now result (subst (λ (u : SiteSetting). GivesLines u (order_after order so_far.lines) so_far.rest now number (HasTakenMore contents b c) IsNoText result) same given)
+    now result (subst (λ (u : SiteSetting). GivesLines u (order_after s order so_far.lines) so_far.rest now number (HasTakenMore contents b c) IsNoText result) same given)
 
 -- more is written
 pub written_onto : {A : Type 0} (old mid new : Option (List ℕ)) (s t : SiteSetting) (order : Order) (bytes : List ℕ) (left now : Option (List ℕ)) (first number : ℕ) (site : SiteReplica)
     → (so_far : ComesTo s order bytes left first (Appends old mid) site number) (result : Result (Option (Progress A)) Stop) → t ≡ s
-    → LeavesLines t (order_after order so_far.lines) so_far.rest now number mid new result → LeavesLines s order bytes now first old new result
+    → LeavesLines t (order_after s order so_far.lines) so_far.rest now number mid new result → LeavesLines s order bytes now first old new result
 written_onto old mid new s t order bytes left now first number site so_far result same given =
     goes_by s order bytes left first (Appends old mid) (Appends mid new) (Appends old new) (AppendsBeginning mid new) (AppendsBeginning old new) site number so_far (λ t u wrote more. Appends-then old mid new t u wrote more)
     (λ t u wrote more. begins_behind old mid new t u wrote more)
-    now result (subst (λ (u : SiteSetting). LeavesLines u (order_after order so_far.lines) so_far.rest now number mid new result) same given)
+    now result (subst (λ (u : SiteSetting). LeavesLines u (order_after s order so_far.lines) so_far.rest now number mid new result) same given)
 
 pub leaves_err : (A : Type 0) (s : SiteSetting) (bytes : List ℕ) (left old new : Option (List ℕ)) (stop : Stop) → LeavesLines {A = A} s [] bytes left 1 old new (Err stop) → LeavesAnswers {T = Unit {0}} s bytes old new (Err stop)
 leaves_err A s bytes left old new (Fault fault) given = given
@@ -191,7 +191,7 @@ leaves_err A s bytes left old new (Output error) given = given
 
 module _ (s : SiteSetting) (order : Order) (bytes : List ℕ) (left : Option (List ℕ)) (number : ℕ) (IsPutOut : List ℕ → Type 0) where
   one : (line rest text : List ℕ) (next_site : SiteReplica) → left ≡ Some rest → whole_lines bytes ≡ line ∷ whole_lines rest → IsLineAnswer s order (line_says line) text
-      → IsPutOut text → StandsForOrder next_site (order_behind order (line_says line)) → ComesTo s order bytes left number IsPutOut next_site (number + 1)
+      → IsPutOut text → StandsForOrder next_site (order_behind s order (line_says line)) → ComesTo s order bytes left number IsPutOut next_site (number + 1)
   one line rest text next_site known split answer put_out stands = record {
     lines = line ∷ [];
     rest = rest;
@@ -205,17 +205,17 @@ module _ (s : SiteSetting) (order : Order) (bytes : List ℕ) (left : Option (Li
   }
 
   pub line_goes : (line shown text : List ℕ) (next_site : SiteReplica) (is_followed : Bool) → IsNextLine bytes left line (next.Line is_followed) → shown ≡ line
-      → IsLineAnswer s order (line_says shown) text → IsPutOut text → StandsForOrder next_site (order_behind order (line_says shown)) → ComesTo s order bytes left number IsPutOut next_site (number + 1)
+      → IsLineAnswer s order (line_says shown) text → IsPutOut text → StandsForOrder next_site (order_behind s order (line_says shown)) → ComesTo s order bytes left number IsPutOut next_site (number + 1)
   line_goes line shown text next_site is_followed (rest, known, split, short, more) same answer put_out stands =
       let says : line_says shown ≡ line_says line = ap line_says same in
-      one line rest text next_site known split (subst (λ t. IsLineAnswer s order t text) says answer) put_out (subst (λ t. StandsForOrder next_site (order_behind order t)) says stands)
+      one line rest text next_site known split (subst (λ t. IsLineAnswer s order t text) says answer) put_out (subst (λ t. StandsForOrder next_site (order_behind s order t)) says stands)
 
   pub long_goes : (line : List ℕ) (site : SiteReplica) → IsNextLine bytes left line next.TooLong → IsPutOut (fault_line Bytes) → StandsForOrder site order
       → ComesTo s order bytes left number IsPutOut site (number + 1)
   long_goes line site (long, rest, known, split, is) put_out stands =
       let says : line_says long ≡ Err Bytes = says-too_long (fields_say word_of request_behind) MAX_SITE_LINE long is in
       one long rest (fault_line Bytes) site known split (subst (λ t. IsLineAnswer s order t (fault_line Bytes)) (sym says) refl) put_out
-      (subst (λ t. StandsForOrder site (order_behind order t)) (sym says) stands)
+      (subst (λ t. StandsForOrder site (order_behind s order t)) (sym says) stands)
 
   none_answered : IsPutOut [] → AnswersSome s order bytes 0 IsPutOut
   none_answered nothing = record {

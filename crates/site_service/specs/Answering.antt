@@ -18,15 +18,15 @@ use Rattle.site_service.specs.declared.lines.Progress.{Progress}
 use Rattle.site_service.specs.LineAnswers.{IsLineAnswer, order_behind}
 
 -- the order behind these lines: the byte strings that were given in them
-abbrev pub order_after : Order → List (List ℕ) → Order
-order_after order lines = fold (λ so_far line. order_behind so_far (line_says line)) order lines
+abbrev pub order_after : SiteSetting → Order → List (List ℕ) → Order
+order_after s order lines = fold (λ so_far line. order_behind s so_far (line_says line)) order lines
 
 -- what is answered to lines behind an order, one after another
 unfoldable pub AreAnswers : SiteSetting → Order → List (List ℕ) → List ℕ → Type 0
 AreAnswers s order [] text = text ≡ []
 AreAnswers s order (line ∷ lines) text =
     (here rest : List ℕ) × IsLineAnswer s order (line_says line) here × (text ≡ here ++ rest)
-    × AreAnswers s (order_behind order (line_says line)) lines rest
+    × AreAnswers s (order_behind s order (line_says line)) lines rest
 
 -- to all of the lines of an input of these bytes
 abbrev pub AreAllAnswers : SiteSetting → List ℕ → List ℕ → Type 0
@@ -74,7 +74,7 @@ pub record ComesTo (s : SiteSetting) (order : Order) (bytes : List ℕ) (left : 
   pub text : List ℕ
   pub answers : AreAnswers s order lines text
   pub put_out : IsPutOut text
-  pub stands : StandsForOrder site (order_after order lines)
+  pub stands : StandsForOrder site (order_after s order lines)
 
 -- what lines come to from number first on. By the cases: the site goes on; all lines were answered; memory was wanting at
 -- a line, and those before are answered; the input failed behind answered lines; the output failed, and a beginning of

@@ -30,6 +30,8 @@ number_of_nothing nothing.Addition = 2
 number_of_nothing nothing.Snapshot = 3
 number_of_nothing nothing.Procedure = 4
 number_of_nothing nothing.Untrue = 5
+number_of_nothing nothing.Superseded = 6
+number_of_nothing nothing.UnknownSession = 7
 
 -- as `repeat 1 reply 10`
 abbrev pub repeat_words : ℕ → ℕ → List ℕ
@@ -43,6 +45,7 @@ outcome_words (outcome.Repeated position reply) = repeat_words position reply
 outcome_words (outcome.Added number) = codes "added " ++ decimal number
 outcome_words (outcome.Taken Name) = codes "taken C1"
 outcome_words (outcome.Taken Number) = codes "taken C2"
+outcome_words (outcome.Session session) = codes "session " ++ decimal session
 outcome_words (outcome.Nothing cause) = codes "nothing E" ++ decimal (number_of_nothing cause)
 
 -- the request, where there is one
@@ -69,6 +72,7 @@ submit_words bytes = codes "submit " ++ encode_lower bytes
 
 abbrev pub call_words : CallAnswer (List ℕ) → List ℕ
 call_words (call.Refused refusal) = codes "refused P" ++ decimal (number_of_call_refusal refusal)
+call_words call.OutOfSession = codes "refused P15"
 call_words (call.Repeated position reply) = repeat_words position reply
 call_words (call.Cancelled position code) = cancelled_words position code
 call_words (call.Read position reply) = read_words position reply
@@ -80,6 +84,7 @@ call_line answer = call_words answer ++ codes "\n"
 -- the answer whose entry is given by its bytes
 abbrev pub call_with_bytes : {E : Type 0} → (E → List ℕ) → CallAnswer E → CallAnswer (List ℕ)
 call_with_bytes bytes (call.Refused refusal) = call.Refused refusal
+call_with_bytes bytes call.OutOfSession = call.OutOfSession
 call_with_bytes bytes (call.Repeated position reply) = call.Repeated position reply
 call_with_bytes bytes (call.Cancelled position code) = call.Cancelled position code
 call_with_bytes bytes (call.Read position reply) = call.Read position reply

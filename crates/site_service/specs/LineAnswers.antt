@@ -1,5 +1,5 @@
 -- What a site answers to the lines that are given to it, behind an order.
-use Rattle.std.specs.Prelude.{◌≡◌, ◌⊎◌, IsTrue, ℕ, ◌+◌, ◌==◌, if◌then◌else◌, List, [], ◌∷◌, ◌++◌, length, map, Option, Some, None, Result, Ok, Err}
+use Rattle.std.specs.Prelude.{◌≡◌, ◌⊎◌, IsTrue, ℕ, ◌+◌, ◌==◌, Bool, ◌||◌, if◌then◌else◌, List, [], ◌∷◌, ◌++◌, length, map, Option, Some, None, Result, Ok, Err}
 use Rattle.std.specs.List.{concat}
 use Rattle.std.specs.FinMap.{contains_key, entries}
 use Rattle.schema.specs.Rows.{Key}
@@ -7,6 +7,7 @@ use Rattle.log_model.specs.Log.{rows_after}
 use Rattle.log_model.specs.OpenRequest.{given_request}
 use Rattle.log_entry.specs.Head.{NamedProcedure, head_of}
 use Rattle.script.specs.declared.fault.LineFault.{LineFault}
+use Rattle.site_model.specs.declared.origin.Origin.{Origin}
 use Rattle.site_model.specs.Standing.{SiteSetting}
 use Rattle.site_model.specs.Order.{Order, next_outcome, order_log, request_in}
 use Rattle.site_model.specs.Answer.{Asked, addition_answer, call_answer, takes_memory}
@@ -16,29 +17,37 @@ use Rattle.site_service.specs.Lines.{SiteRequest}
 use Rattle.site_service.specs.Answers.{entry_line, call_line, addition_line, position_line, row_text, row_count_line, fault_line}
 use Rattle.site_service.specs.Answers.{order_full_line, no_memory_line, no_table_line}
 use Rattle.site_service.specs.Scanned.{scanned_rows}
-use Rattle.site_service.specs.declared.entry.TheConstants.{MAX_POSITION}
+use Rattle.site_service.specs.declared.entry.TheConstants.{MAX_POSITION, MAX_STRINGS}
 
 -- ---- the order behind a line
 
+abbrev pub strings_before : Option Origin → ℕ
+strings_before None = 0
+strings_before (Some origin) = origin.strings
+
+-- whether there is no position behind so many byte strings: in the order, or with those that came before it in 64 bits
+abbrev pub is_full : SiteSetting → ℕ → Bool
+is_full s count = (count == MAX_POSITION) || (strings_before s.origin + count == MAX_STRINGS)
+
 -- with one more byte string, as long as there is a position for it
-abbrev pub order_with_bytes : Order → List ℕ → Order
-order_with_bytes order bytes = if length order == MAX_POSITION then order else order ++ bytes ∷ []
+abbrev pub order_with_bytes : SiteSetting → Order → List ℕ → Order
+order_with_bytes s order bytes = if is_full s (length order) then order else order ++ bytes ∷ []
 
 -- only a byte string of the order changes it
-abbrev pub order_with : Order → SiteRequest → Order
-order_with order (Entry bytes) = order_with_bytes order bytes
-order_with order request = order
+abbrev pub order_with : SiteSetting → Order → SiteRequest → Order
+order_with s order (Entry bytes) = order_with_bytes s order bytes
+order_with s order request = order
 
-abbrev pub order_behind : Order → Result (Option SiteRequest) LineFault → Order
-order_behind order (Ok (Some request)) = order_with order request
-order_behind order says = order
+abbrev pub order_behind : SiteSetting → Order → Result (Option SiteRequest) LineFault → Order
+order_behind s order (Ok (Some request)) = order_with s order request
+order_behind s order says = order
 
 -- ---- answers
 
 -- what became of the byte string at the next position
 abbrev pub entry_answer : SiteSetting → Order → List ℕ → List ℕ
 entry_answer s order bytes =
-    if length order == MAX_POSITION then order_full_line
+    if is_full s (length order) then order_full_line
     else entry_line (length order + 1) (next_outcome s order bytes) (request_in (head_of bytes))
 
 -- each row, in the order of tables and keys, and how many there are

@@ -1,22 +1,23 @@
--- What the settings of sites say: lines that set something in scripts, but for the number of replicas, and once the line
--- `additions`.
-use Rattle.std.specs.Prelude.{ℕ, Bool, true, false, if◌then◌else◌, List, [], codes, Option, Some, None, Result, Ok, Err}
+-- What the settings of sites say: lines that set something in scripts, but for the number of replicas, and once each the
+-- lines `additions` and `origin`.
+use Rattle.std.specs.Prelude.{ℕ, ◌==◌, nat_lt, Bool, true, false, not, is_some, ◌||◌, if◌then◌else◌, List, [], length, codes, Option, Some, None, Result, Ok, Err}
 use Rattle.std.specs.Option.{option_map}
 use Rattle.std.specs.Str.{bytes_eq}
 use Rattle.script.specs.declared.fault.LineFault.{LineFault}
 use Rattle.script.specs.declared.fault.LineFault.TheVariants as fault
 use Rattle.script.specs.declared.statements.Statement.TheVariants as statement
-use Rattle.script.specs.declared.statements.Setting.TheVariants.{Replicas}
+use Rattle.script.specs.declared.statements.Setting.TheVariants.{Replicas, Request, Origin}
 use Rattle.script.specs.Text.{lines_of, max_line}
 use Rattle.script.specs.Line.{made_of, fields_say, says}
 use Rattle.script.specs.Script as script
 use Rattle.script.specs.Script.{ScriptSetting}
 use Rattle.script.specs.declared.cause.FaultCause.{FaultCause}
-use Rattle.script.specs.declared.cause.FaultCause.TheVariants.{Place}
+use Rattle.script.specs.declared.cause.FaultCause.TheVariants.{Place, Session}
 use Rattle.script.specs.declared.cause.ScriptFault.{ScriptFault}
 use Rattle.script.specs.SettingsFault.{cause_of_line_fault}
 use Rattle.script.specs.Settings.{ScriptSettings, no_settings, setting_after, then_with}
 use Rattle.script.specs.Said.{fault_at, said_from}
+use Rattle.site_model.specs.declared.origin.Origin.{Origin as OrderOrigin}
 use Rattle.site_model.specs.Standing.{SiteSetting}
 use Rattle.site_service.specs.declared.settings_line.SettingsWord.{SettingsWord}
 use Rattle.site_service.specs.declared.settings_line.SettingsWord.TheVariants as word
@@ -54,18 +55,36 @@ IsWithinLimits (Statement s) = script.IsWithinLimits s
 pub record SettingsSoFar : Type 0 where
   pub settings : ScriptSettings
   pub takes_additions : Bool
+  pub origin : Option OrderOrigin
 
 abbrev pub nothing_set : SettingsSoFar
-nothing_set = record { settings = no_settings; takes_additions = false }
+nothing_set = record { settings = no_settings; takes_additions = false; origin = None }
 
 -- `additions` stands once
 abbrev pub with_additions : SettingsSoFar → Result SettingsSoFar FaultCause
 with_additions s = if s.takes_additions then Err Place else Ok (record s { takes_additions = true })
 
+-- `origin` stands once, and before all requests
+abbrev pub with_origin : SettingsSoFar → OrderOrigin → Result SettingsSoFar FaultCause
+with_origin s origin =
+    if is_some s.origin || not (length s.settings.catalogue.requests == 0) then Err Place
+    else Ok (record s { origin = Some origin })
+
+-- a session of a greater number than those of the origin
+abbrev pub is_beyond : Option OrderOrigin → ℕ → Bool
+is_beyond None session = false
+is_beyond (Some origin) session = nat_lt origin.sessions session
+
+abbrev pub with_script_setting : SettingsSoFar → ScriptSetting → Result SettingsSoFar FaultCause
+with_script_setting s setting =
+    then_with (setting_after s.settings setting) (λ settings. Ok (record s { settings = settings }))
+
 -- a site has one replica
 abbrev pub with_setting : SettingsSoFar → ScriptSetting → Result SettingsSoFar FaultCause
 with_setting s (Replicas replicas) = Err Place
-with_setting s setting = then_with (setting_after s.settings setting) (λ settings. Ok (record s { settings = settings }))
+with_setting s (Origin strings sessions) = with_origin s (record { strings = strings; sessions = sessions })
+with_setting s (Request r) = if is_beyond s.origin r.session then Err Session else with_script_setting s (Request r)
+with_setting s setting = with_script_setting s setting
 
 -- with one more line, none of which acts
 abbrev pub after_line : SettingsSoFar → Result (Option SettingsRequest) LineFault → Result SettingsSoFar FaultCause
@@ -82,6 +101,7 @@ with_window s None = Err (fault_at 0 Place)
 with_window s (Some window) = Ok (record {
   setting = system_setting s.settings.catalogue window;
   takes_additions = s.takes_additions;
+  origin = s.origin;
 })
 
 -- settings that end without a window are at fault as a whole

@@ -36,7 +36,7 @@ pub fn answer<A: Allocator + Copy, S: ByteSink>(
         → (text : List ℕ) × IsLineAnswer (setting_of site) order (line_says line.now) text
         × S.appends sink.old sink.new text) }
     ensures stands { IfOk result (λ next. (order : Order) → StandsForOrder site order
-        → StandsForOrder next (order_behind order (line_says line.now))) }
+        → StandsForOrder next (order_behind (setting_of site) order (line_says line.now))) }
     ensures setting { IfOk result (λ next. setting_of next ≡ setting_of site) }
     ensures nothing { OnErr result (sink.new ≡ sink.old) }
 {
@@ -64,7 +64,7 @@ fn answer_request<A: Allocator + Copy, S: ByteSink>(
     ensures answered { IfOk result (λ _. (order : Order) → StandsForOrder site order
         → (text : List ℕ) × IsAnswer (setting_of site) order request.now text × S.appends sink.old sink.new text) }
     ensures stands { IfOk result (λ next. (order : Order) → StandsForOrder site order
-        → StandsForOrder next (order_with order request.now)) }
+        → StandsForOrder next (order_with (setting_of site) order request.now)) }
     ensures setting { IfOk result (λ next. setting_of next ≡ setting_of site) }
     ensures nothing { OnErr result (sink.new ≡ sink.old) }
 {

@@ -38,6 +38,7 @@ pub fn append_call_line<A: Allocator + Copy, S: ByteSink>(
         CallAnswer::Refused(refusal) => {
             sink.append(&number_line("refused P", u64::from(call_refusal_number(*refusal))));
         }
+        CallAnswer::OutOfSession => sink.append(b"refused P15\n"),
         CallAnswer::Repeated { position, reply } => {
             sink.append(&two_number_line("repeat ", *position, " reply ", *reply));
         }

@@ -6,7 +6,7 @@ ghost use Rattle.site_service.specs.Answers.{number_of_call_refusal, number_of_n
 use log_model::CallRefusal;
 use site_model::NothingCause;
 
-/// The number after the letter E in printed answers, 1 to 5.
+/// The number after the letter E in printed answers, 1 to 7.
 pub fn nothing_number(cause: NothingCause) -> u8
     ensures { result ≡ number_of_nothing cause }
 {
@@ -16,6 +16,8 @@ pub fn nothing_number(cause: NothingCause) -> u8
         NothingCause::Snapshot => 3,
         NothingCause::Procedure => 4,
         NothingCause::Untrue => 5,
+        NothingCause::Superseded => 6,
+        NothingCause::UnknownSession => 7,
     }
 }
 

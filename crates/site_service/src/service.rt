@@ -82,6 +82,7 @@ fn serve<A: Allocator + Copy, S: BufRead, R: BufRead, W: Write>(
         settings.window,
         settings.catalogue,
         settings.takes_additions,
+        settings.origin,
     ) else {
         return Err(out_of_memory(0));
     };

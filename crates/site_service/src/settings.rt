@@ -1,6 +1,7 @@
 //! The settings that all sites of an order have in common.
 
 use catalogue::Catalogue;
+use site_model::Origin;
 use std::alloc::{Allocator, Global};
 
 /// The settings that all sites of an order have in common.
@@ -8,8 +9,10 @@ use std::alloc::{Allocator, Global};
 pub struct SiteSettings<A: Allocator + Copy = Global> {
     /// The window, 1 to 4,096.
     pub window: u32,
-    /// The tables, and the procedures that there are from the beginning.
+    /// The tables, and all that the database begins with.
     pub catalogue: Catalogue<A>,
     /// True where the order may add procedures.
     pub takes_additions: bool,
+    /// What came before, where the order opens sessions.
+    pub origin: Option<Origin>,
 }

@@ -3,7 +3,7 @@
 ghost use Rattle.std.specs.Prelude.{◌≡◌, ◌⊎◌, Ok, Err, IfOk, IfErr, OnOk};
 ghost use Rattle.script.specs.Script.{IsSettingWithinLimits};
 ghost use Rattle.script.specs.declared.cause.FaultCause.TheVariants.{NoMemory};
-ghost use Rattle.site_service.specs.Settings.{with_additions, with_setting};
+ghost use Rattle.site_service.specs.Settings.{is_beyond, with_additions, with_origin, with_setting};
 ghost use Rattle.site_service.specs.Reading.{so_far};
 
 use crate::settings::SiteSettings;
@@ -12,6 +12,7 @@ use row_sets::Bytes;
 use script::{
     FaultCause, LineReader, MAX_LINE, ScriptFault, Setting, Settings, Statement, read_line,
 };
+use site_model::Origin;
 use std::alloc::{AllocError, Allocator};
 
 /// The settings that the lines have set so far.
@@ -19,6 +20,7 @@ use std::alloc::{AllocError, Allocator};
 pub(crate) struct Reading<A: Allocator + Copy> {
     pub(crate) settings: Settings<A>,
     pub(crate) takes_additions: bool,
+    pub(crate) origin: Option<Origin>,
 }
 
 impl<A: Allocator + Copy> Reading<A> {
@@ -34,6 +36,28 @@ impl<A: Allocator + Copy> Reading<A> {
         Ok(())
     }
 
+    /// Takes what came before the order, which stands once and before all requests.
+    fn begin_behind(&mut self, origin: Origin) -> Result<(), FaultCause>
+        ensures ok { OnOk result (with_origin (so_far self.old) origin ≡ Ok (so_far self.new)) }
+        ensures fault { IfErr result (λ cause. with_origin (so_far self.old) origin ≡ Err cause) }
+    {
+        if self.origin.is_some() || !self.settings.catalogue().requests().requests().is_empty() {
+            return Err(FaultCause::Place);
+        }
+        self.origin = Some(origin);
+        Ok(())
+    }
+
+    /// Tells whether a session has a greater number than those of the origin.
+    fn is_beyond(&self, session: u32) -> bool
+        ensures { result ≡ is_beyond self.now.origin session }
+    {
+        match self.origin {
+            Some(origin) => session > origin.sessions,
+            None => false,
+        }
+    }
+
     /// Takes a setting of scripts. A number of replicas isn't taken, since a site has one replica.
     fn set(&mut self, setting: Setting<Bytes<A>>) -> Result<(), FaultCause>
         requires { IsSettingWithinLimits setting }
@@ -43,6 +67,12 @@ impl<A: Allocator + Copy> Reading<A> {
     {
         match setting {
             Setting::Replicas(_) => Err(FaultCause::Place),
+            Setting::Origin { strings, sessions } => {
+                self.begin_behind(Origin { strings, sessions })
+            }
+            Setting::Request(request) if self.is_beyond(request.session) => {
+                Err(FaultCause::Session)
+            }
             setting => self.settings.set(setting),
         }
     }
@@ -83,6 +113,7 @@ impl<A: Allocator + Copy> LineReader<A> for Reading<A> {
         Ok(Reading {
             settings: Settings::new(alloc)?,
             takes_additions: false,
+            origin: None,
         })
     }
 
@@ -100,6 +131,7 @@ impl<A: Allocator + Copy> LineReader<A> for Reading<A> {
         let Reading {
             settings,
             takes_additions,
+            origin,
         } = self;
         let Some(window) = settings.window() else {
             return Err(ScriptFault {
@@ -111,6 +143,7 @@ impl<A: Allocator + Copy> LineReader<A> for Reading<A> {
             window,
             catalogue: settings.into_catalogue(),
             takes_additions,
+            origin,
         })
     }
 }

@@ -44,6 +44,9 @@ fn push_outcome(words: &mut LineBuffer, outcome: EntryOutcome)
         EntryOutcome::Added(number) => push_unsigned(words, "added ", u64::from(number)),
         EntryOutcome::Taken(Identifier::Name) => push(words, b"taken C1"),
         EntryOutcome::Taken(Identifier::Number) => push(words, b"taken C2"),
+        EntryOutcome::Session(session) => {
+            push_unsigned(words, "session ", u64::from(session));
+        }
         EntryOutcome::Nothing(cause) => {
             push_unsigned(words, "nothing E", u64::from(nothing_number(cause)));
         }

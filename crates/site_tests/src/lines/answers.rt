@@ -33,7 +33,7 @@ const LAST: Option<RequestId> = Some(RequestId {
 /// The outcome of the byte string at a position, its request, and the line.
 type Told = (u32, EntryOutcome, Option<RequestId>, &'static str);
 
-static OUTCOMES: [Told; 8] = [
+static OUTCOMES: [Told; 9] = [
     (
         1,
         EntryOutcome::Committed(10),
@@ -78,6 +78,7 @@ static OUTCOMES: [Told; 8] = [
         "entry 4294967295 repeat 4294967294 reply 18446744073709551615 session 4294967295 seq 4294967295\n",
     ),
     (1, EntryOutcome::Added(9), NONE, "entry 1 added 9\n"),
+    (1, EntryOutcome::Session(1), NONE, "entry 1 session 1\n"),
 ];
 
 /// Additions whose name or number is taken: the position, which of both, and the line.
@@ -87,10 +88,12 @@ static TAKEN: [(u32, Identifier, &str); 2] = [
 ];
 
 /// Causes for which the byte string at position 1 is nothing and has no request, each with the line.
-static NOTHING: [(NothingCause, &str); 3] = [
+static NOTHING: [(NothingCause, &str); 5] = [
     (NothingCause::Unreadable, "entry 1 nothing E1\n"),
     (NothingCause::Addition, "entry 1 nothing E2\n"),
     (NothingCause::Procedure, "entry 1 nothing E4\n"),
+    (NothingCause::Superseded, "entry 1 nothing E6\n"),
+    (NothingCause::UnknownSession, "entry 1 nothing E7\n"),
 ];
 
 /// Makes a sink to which lines are appended.
@@ -173,6 +176,8 @@ fn calls_have_their_lines(rt: HostRuntime) {
     let (position, reply) = (1, 10);
     let answer = CallAnswer::Repeated { position, reply };
     has_line(&rt, alloc, Answered::Call(&answer), "repeat 1 reply 10\n");
+    let answer = CallAnswer::OutOfSession;
+    has_line(&rt, alloc, Answered::Call(&answer), "refused P15\n");
     let answer = CallAnswer::Cancelled { position, code: 2 };
     has_line(&rt, alloc, Answered::Call(&answer), "cancelled 1 code 2\n");
     let answer = CallAnswer::Read { position, reply: 1 };

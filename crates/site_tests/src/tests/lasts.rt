@@ -4,7 +4,7 @@ use super::heads::CALL;
 use super::sites::{GivenSite, answer};
 use log_model::RequestId;
 use site::{Asked, Site};
-use site_model::{CallAnswer, EntryOutcome};
+use site_model::{CallAnswer, EntryOutcome, NothingCause, Origin};
 use std::alloc::Global;
 use std::process::Abort;
 
@@ -18,7 +18,7 @@ type Last = (u32, u64, u16, &'static [u8]);
 
 /// Asserts that a session has done this last, or nothing.
 fn has_last(rt: &impl Abort, site: &Site, session: u32, wanted: Option<Last>) {
-    let Some(done) = site.last_requests().last(session) else {
+    let Some(done) = site.sessions().lasts().last(session) else {
         assert!(rt; wanted.is_none(), "nothing done");
         return;
     };
@@ -115,4 +115,49 @@ fn a_session_that_did_nothing_before_begins(rt: HostRuntime) {
     has_last(&rt, given.site().expect(&rt, "a site"), 7, done);
     let first = Some((1, 10, 1, TEN.as_slice()));
     take(&rt, &mut given, &CALL, EntryOutcome::Committed(10), first);
+}
+
+/// The bytes that open a session.
+static OPENING: [u8; 18] = [0, 2, 1, 1, 1, 1, 1, 1, 1, 1, 1, 1, 1, 1, 1, 1, 1, 1];
+
+/// The number of sessions that the order of a site has opened.
+fn opened(rt: &impl Abort, given: &GivenSite) -> u32 {
+    given.site().expect(rt, "a site").sessions().opened()
+}
+
+#[test]
+fn an_order_opens_sessions_and_refuses_what_they_have_passed(rt: HostRuntime) {
+    let alloc = rt.alloc();
+    let (strings, sessions) = (3, 6);
+    let mut given = GivenSite::with_sessions(alloc, Origin { strings, sessions });
+    let unknown = EntryOutcome::Nothing(NothingCause::UnknownSession);
+    take(&rt, &mut given, &CALL, unknown, None);
+    let (told, _) = answer_of_seven(&rt, alloc, &given, 1);
+    assert_eq!(rt; told, CallAnswer::OutOfSession);
+    let short = EntryOutcome::Nothing(NothingCause::Unreadable);
+    take(&rt, &mut given, &OPENING[..17], short, None);
+    take(&rt, &mut given, &OPENING, EntryOutcome::Session(7), None);
+    assert_eq!(rt; opened(&rt, &given), 1);
+    let third = Some((3, 7, 1, SEVEN.as_slice()));
+    let (_, second) = answer_of_seven(&rt, alloc, &given, 2);
+    let (_, bytes) = answer_of_seven(&rt, alloc, &given, 3);
+    take(&rt, &mut given, &bytes, EntryOutcome::Committed(7), third);
+    let superseded = EntryOutcome::Nothing(NothingCause::Superseded);
+    take(&rt, &mut given, &second, superseded, third);
+    let (told, _) = answer_of_seven(&rt, alloc, &given, 2);
+    assert_eq!(rt; told, CallAnswer::OutOfSession);
+    let (position, reply) = (4, 7);
+    let (told, _) = answer_of_seven(&rt, alloc, &given, 3);
+    assert_eq!(rt; told, CallAnswer::Repeated { position, reply });
+}
+
+#[test]
+fn session_numbers_have_32_bits(rt: HostRuntime) {
+    let (strings, sessions) = (0, u32::MAX - 1);
+    let mut given = GivenSite::with_sessions(rt.alloc(), Origin { strings, sessions });
+    let last = EntryOutcome::Session(u32::MAX);
+    take(&rt, &mut given, &OPENING, last, None);
+    let beyond = EntryOutcome::Nothing(NothingCause::Unreadable);
+    take(&rt, &mut given, &OPENING, beyond, None);
+    assert_eq!(rt; opened(&rt, &given), 1);
 }

@@ -7,7 +7,7 @@ use log_entry::{Entry, NamedProgram, to_bytes};
 use log_model::RequestId;
 use schema::Schema;
 use site::{Asked, Site};
-use site_model::{AdditionAnswer, CallAnswer, EntryOutcome};
+use site_model::{AdditionAnswer, CallAnswer, EntryOutcome, Origin};
 use std::alloc::Global;
 use test_programs::{ADD, bytes_of};
 
@@ -41,14 +41,19 @@ fn catalogue_of(alloc: Global) -> Option<Catalogue> {
 
 /// A site that was given nothing, and `None` where memory is wanting.
 fn site_of(alloc: Global, takes_additions: bool) -> Option<Site> {
-    Site::new(alloc, 4, catalogue_of(alloc)?, takes_additions).ok()
+    Site::new(alloc, 4, catalogue_of(alloc)?, takes_additions, None).ok()
 }
 
 /// A site before which a request was done, and `None` where memory is wanting.
 fn site_behind(alloc: Global, request: RequestId, reply: u64) -> Option<Site> {
     let mut catalogue = catalogue_of(alloc)?;
     catalogue.put_request(request, reply, 3, &[1]).ok()?;
-    Site::new(alloc, 4, catalogue, false).ok()
+    Site::new(alloc, 4, catalogue, false, None).ok()
+}
+
+/// A site that was given nothing of an order that opens sessions, and `None` where memory is wanting.
+fn site_with_sessions(alloc: Global, origin: Origin) -> Option<Site> {
+    Site::new(alloc, 4, catalogue_of(alloc)?, false, Some(origin)).ok()
 }
 
 /// Returns the outcome of one more byte string, and the site then. Returns `None` where memory is wanting, or no
@@ -79,6 +84,13 @@ impl GivenSite {
     pub(crate) fn behind(alloc: Global, request: RequestId, reply: u64) -> GivenSite {
         GivenSite {
             site: site_behind(alloc, request, reply),
+        }
+    }
+
+    /// Makes a site that was given nothing of an order that opens sessions behind these.
+    pub(crate) fn with_sessions(alloc: Global, origin: Origin) -> GivenSite {
+        GivenSite {
+            site: site_with_sessions(alloc, origin),
         }
     }
 
@@ -113,6 +125,7 @@ pub(crate) fn answer(
             return Some((CallAnswer::Submitted(size), bytes));
         }
         Ok(CallAnswer::Refused(refusal)) => CallAnswer::Refused(refusal),
+        Ok(CallAnswer::OutOfSession) => CallAnswer::OutOfSession,
         Ok(CallAnswer::Repeated { position, reply }) => CallAnswer::Repeated { position, reply },
         Ok(CallAnswer::Cancelled { position, code }) => CallAnswer::Cancelled { position, code },
         Ok(CallAnswer::Read { position, reply }) => CallAnswer::Read { position, reply },

@@ -6,19 +6,20 @@ use Rattle.log_model.specs.Entries.{Entry, item_of, items_of}
 use Rattle.log_model.proofs.AdmissionLemmas.{admits, is_admitted}
 use Rattle.replica.specs.Replica.{Replica}
 use Rattle.site_model.specs.declared.answer.CallAnswer.TheVariants.{Repeated}
+use Rattle.site_model.specs.Sessions.{session_cause}
 use Rattle.site_model.specs.Answer.{asked_call, takes_memory}
 use Rattle.site.specs.Run.{CanRun}
 use Rattle.site.specs.Replica.{setting_of}
 use Rattle.site.proofs.SiteLemmas.{can_run}
 use Rattle.site.specs.Answered.{asked_of}
-use Rattle.site.proofs.CallLemmas.{answer_of_run-takes_memory, on_err, no_procedure, refused_call, repeated_call, run_call, none_found_in, found_in, same_call, reply_fits}
+use Rattle.site.proofs.CallLemmas.{answer_of_run-takes_memory, is_none_is_none, is_some_is_some, on_err, out_of_session, no_procedure, refused_call, repeated_call, run_call, none_found_in, found_in, same_call, reply_fits}
 use Rattle.std.proofs.lemmas.List.{length-map}
 use Rattle.site.proofs.asked.call.Goals as goal
 
 pub returns-in_default-clause-answer : goal.returns-in_default-clause-answer
 returns-in_default-clause-answer g c entries stands =
     let s = c.args.site.now in
-    no_procedure (setting_of s).setting entries (asked_of c.args.asked) (none_found_in s entries c.procedures-procedures.result.now c.entries_suffice.ensures.procedures stands (c.procedures-procedures.ensures ∙ ap (λ (r : Replica). r.procedures) c.replica.ensures) c.args.asked.name.now (sym c.in_default.is ∙ c.by_name.ensures))
+    no_procedure (setting_of s) s.sessions entries (asked_of c.args.asked) (none_found_in s entries c.procedures-procedures.result.now c.entries_suffice.ensures.procedures stands (c.procedures-procedures.ensures ∙ ap (λ (r : Replica). r.procedures) c.replica.ensures) c.args.asked.name.now (sym c.in_default.is ∙ c.by_name.ensures))
 
 pub returns-in-Err-clause-answer : goal.returns-in-Err-clause-answer
 returns-in-Err-clause-answer g c entries stands =
@@ -26,7 +27,16 @@ returns-in-Err-clause-answer g c entries stands =
     let w = (setting_of s).setting in
     let asked = asked_of c.args.asked in
     let f = found_in s entries c.procedures-procedures.result.now c.entries_suffice.ensures.procedures stands (c.procedures-procedures.ensures ∙ ap (λ (r : Replica). r.procedures) c.replica.ensures) c.args.asked.name.now c.in-Some.procedure c.found_by_name_is_found_by_number.ensures c.stored_procedures_are_consistent.ensures (sym c.in-Some.is ∙ c.by_name.ensures) in
-    refused_call w entries asked f.p f.named c.in-Err.refusal (f.answered asked.args asked.request (Err c.in-Err.refusal) c.in-Err.ensures.refused)
+    refused_call (setting_of s) s.sessions entries asked f.p f.named c.in-Err.refusal (f.answered asked.args asked.request (Err c.in-Err.refusal) c.in-Err.ensures.refused)
+
+pub returns-then-is_some-clause-answer : goal.returns-then-is_some-clause-answer
+returns-then-is_some-clause-answer g c entries stands =
+    let s = c.args.site.now in
+    let asked = asked_of c.args.asked in
+    let f = found_in s entries c.procedures-procedures.result.now c.entries_suffice.ensures.procedures stands (c.procedures-procedures.ensures ∙ ap (λ (r : Replica). r.procedures) c.replica.ensures) c.args.asked.name.now c.in-Some.procedure c.found_by_name_is_found_by_number.ensures c.stored_procedures_are_consistent.ensures (sym c.in-Some.is ∙ c.by_name.ensures) in
+    let admitted = admits asked.args asked.request f.p c.in-Ok.ensures.admitted.0 (f.answered asked.args asked.request (Ok c.in-Ok.ensures.admitted.0) c.in-Ok.ensures.admitted.1) in
+    let (why, out) = is_some_is_some c.session_cause.result (sym c.is_some.ensures ∙ c.if-is_some.true) in
+    out_of_session (setting_of s) s.sessions entries asked f.p f.named why admitted (sym c.session_cause.ensures ∙ out)
 
 pub returns-in-Some-repeated-clause-answer : goal.returns-in-Some-repeated-clause-answer
 returns-in-Some-repeated-clause-answer g c entries stands =
@@ -36,8 +46,9 @@ returns-in-Some-repeated-clause-answer g c entries stands =
     let f = found_in s entries c.procedures-procedures.result.now c.entries_suffice.ensures.procedures stands (c.procedures-procedures.ensures ∙ ap (λ (r : Replica). r.procedures) c.replica.ensures) c.args.asked.name.now c.in-Some.procedure c.found_by_name_is_found_by_number.ensures c.stored_procedures_are_consistent.ensures (sym c.in-Some.is ∙ c.by_name.ensures) in
     let admitted = admits asked.args asked.request f.p c.in-Ok.ensures.admitted.0 (f.answered asked.args asked.request (Ok c.in-Ok.ensures.admitted.0) c.in-Ok.ensures.admitted.1) in
     let first : first_repeated w.beginning.requests (history w (items_of entries)).certified (asked_call (items_of entries) f.p asked) ≡ Some c.in-Some-repeated.position = sym (c.repeated.ensures entries stands) ∙ c.in-Some-repeated.is in
+    let inside : session_cause (setting_of s).origin s.sessions asked.request ≡ None = sym c.session_cause.ensures ∙ is_none_is_none c.session_cause.result (sym c.is_some.ensures ∙ c.if-is_some.false) in
     ap (Repeated c.in-Some-repeated.position) (c.reply_to-reply.ensures entries stands.replies)
-    ∙ repeated_call w entries asked f.p f.named c.in-Some-repeated.position admitted first
+    ∙ repeated_call (setting_of s) s.sessions entries asked f.p f.named c.in-Some-repeated.position admitted inside first
 
 pub complete-requires-clause-can : goal.complete-requires-clause-can
 complete-requires-clause-can g c =
@@ -61,12 +72,13 @@ returns-clause-answer g c entries stands =
     let admitted = admits asked.args asked.request f.p c.in-Ok.ensures.admitted.0 (f.answered asked.args asked.request (Ok c.in-Ok.ensures.admitted.0) c.in-Ok.ensures.admitted.1) in
     let here : c.position-snapshot.result ≡ length entries = c.position-snapshot.ensures.count entries stands in
     let first : first_repeated w.beginning.requests (history w (items_of entries)).certified (asked_call (items_of entries) f.p asked) ≡ None = sym (c.repeated.ensures entries stands) ∙ c.in_default-repeated.is in
+    let inside : session_cause (setting_of s).origin s.sessions asked.request ≡ None = sym c.session_cause.ensures ∙ is_none_is_none c.session_cause.result (sym c.is_some.ensures ∙ c.if-is_some.false) in
     let program : Some c.in-Ok.accepted.now ≡ option_map (accepted_of s.catalogue.tables) (by_number (procedures_after w (items_of entries) c.position-snapshot.result) c.in-Some.procedure) =
     ap Some (f.program c.in-Ok.accepted.now c.in-Ok.ensures.program) ∙ ap (option_map (accepted_of s.catalogue.tables)) (sym (ap (λ (n : ℕ). by_number (procedures_after w (items_of entries) n) c.in-Some.procedure) here ∙ f.numbered)) in
     let can = subst (λ (r : Replica). CanRun w entries r c.in-Ok.accepted.now (record { number = 0; procedure = c.in-Some.procedure; args = c.args.asked.args.now; snapshot = c.position-snapshot.result; request = c.args.asked.request })) (sym c.replica-2.ensures) (can_run s entries c.in-Ok.accepted.now (record { number = 0; procedure = c.in-Some.procedure; args = c.args.asked.args.now; snapshot = c.position-snapshot.result; request = c.args.asked.request }) stands program) in
     c.answer_of.ensures.answer w entries (record { number = 0; procedure = c.in-Some.procedure; args = c.args.asked.args.now; snapshot = c.position-snapshot.result; request = c.args.asked.request }) (c.in_ok-completion.ensures w entries can)
     ∙ same_call w (items_of entries) c.in-Some.procedure f.p.number c.args.asked.args.now c.position-snapshot.result (length (items_of entries)) c.args.asked.request (sym f.number_is) (here ∙ sym (length-map entries item_of))
-    ∙ run_call w entries asked f.p f.named admitted first
+    ∙ run_call (setting_of s) s.sessions entries asked f.p f.named admitted inside first
 
 pub returns-clause-fits : goal.returns-clause-fits
 returns-clause-fits g c entries bytes stands told =
@@ -117,5 +129,6 @@ returns-in_err-completion-clause-memory g c = on_err c.from_residual.result _ (�
     let f = found_in s entries c.procedures-procedures.result.now c.entries_suffice.ensures.procedures stands (c.procedures-procedures.ensures ∙ ap (λ (r : Replica). r.procedures) c.replica.ensures) c.args.asked.name.now c.in-Some.procedure c.found_by_name_is_found_by_number.ensures c.stored_procedures_are_consistent.ensures (sym c.in-Some.is ∙ c.by_name.ensures) in
     let admitted = admits asked.args asked.request f.p c.in-Ok.ensures.admitted.0 (f.answered asked.args asked.request (Ok c.in-Ok.ensures.admitted.0) c.in-Ok.ensures.admitted.1) in
     let first : first_repeated w.beginning.requests (history w (items_of entries)).certified (asked_call (items_of entries) f.p asked) ≡ None = sym (c.repeated.ensures entries stands) ∙ c.in_default-repeated.is in
-    subst (λ answer. IsTrue (takes_memory answer)) (run_call w entries asked f.p f.named admitted first)
+    let inside : session_cause (setting_of s).origin s.sessions asked.request ≡ None = sym c.session_cause.ensures ∙ is_none_is_none c.session_cause.result (sym c.is_some.ensures ∙ c.if-is_some.false) in
+    subst (λ answer. IsTrue (takes_memory answer)) (run_call (setting_of s) s.sessions entries asked f.p f.named admitted inside first)
     (answer_of_run-takes_memory w (items_of entries) (asked_call (items_of entries) f.p asked)))

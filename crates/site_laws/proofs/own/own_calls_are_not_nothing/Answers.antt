@@ -1,24 +1,38 @@
-use Rattle.std.proofs.Common.{◌≡◌, Some, ℕ, List, subst, sym, ap, ◌∙◌}
-use Rattle.std.proofs.lemmas.List.{length-map}
-use Rattle.log_model.specs.Log.{by_number, procedures_after}
-use Rattle.log_model.specs.Entries.{Entry, item_of}
+use Rattle.std.proofs.Common.{◌≡◌, ◌++◌, Option, List, sym, ap, subst, ◌∙◌}
+use Rattle.log_model.specs.Entries.{Entry}
+use Rattle.site_model.specs.declared.cause.NothingCause.TheVariants.{Superseded}
+use Rattle.site_model.specs.declared.origin.Origin.{Origin}
 use Rattle.site_model.specs.declared.outcome.EntryOutcome.TheVariants.{Nothing}
-use Rattle.site_model.specs.Order.{order_entries, order_log, outcome_behind}
-use Rattle.site_model.specs.Answer.{answer_for, asked_call}
-use Rattle.site_model.specs.Standing.{executed}
+use Rattle.site_model.specs.Answer.{asked_call}
+use Rattle.site_model.specs.Sessions.{session_cause}
+use Rattle.site_model.specs.Order.{order_entries, order_log, outcome_behind, sessions_after}
 use Rattle.site_laws.proofs.LogLemmas.{beginning}
-use Rattle.site_laws.proofs.SettledLemmas.{settled_answer}
-use Rattle.site_laws.proofs.OwnLemmas.{own_is, own_stands}
+use Rattle.site_laws.proofs.OwnLemmas.{nothing_own, own_nothing, submitted_in_session, submitted_is_own}
+use Rattle.site_laws.proofs.SessionLemmas.{at_most_superseded, more_known}
 use Rattle.site_laws.proofs.own.own_calls_are_not_nothing.Goals as goal
 
-pub returns : goal.returns
-returns c s order more asked bytes cause is submitted nothing =
-    let es = order_entries s order in
+pub returns-clause-others : goal.returns-clause-others
+returns-clause-others c s order more asked bytes cause is submitted other nothing =
+    let now = sessions_after s (order ++ more) in
     let (later, e) = beginning s order more in
-    let p = is.procedure in
-    let numbered = subst (λ (n : ℕ). by_number (procedures_after s.setting (order_log s order) n) p.number ≡ Some p) (sym (length-map es item_of)) is.numbered in
-    own_stands s es later bytes (asked_call (order_log s order) p asked) cause
-    (own_is s es later asked p bytes numbered
-    (c.entries_have_their_heads.ensures.calls (executed s.setting (order_log s order) (asked_call (order_log s order) p asked)) is.fits)
-    (sym (settled_answer s order asked ∙ ap (answer_for s.setting es asked) is.named) ∙ submitted))
-    (subst (λ (xs : List Entry). outcome_behind s xs bytes ≡ Nothing cause) e nothing)
+    let against = own_nothing s now (order_entries s order) later bytes (asked_call (order_log s order) is.procedure asked) cause (submitted_is_own s order asked bytes is submitted c.entries_have_their_heads.ensures.calls later)
+    (subst (λ (xs : List Entry). outcome_behind s now xs bytes ≡ Nothing cause) e nothing) in
+    other (at_most_superseded s.origin (sessions_after s order) now asked.request cause (more_known c.sessions_go_on.ensures.next s order more) (submitted_in_session s order asked bytes is submitted) against)
+
+pub returns-clause-without_origin : goal.returns-clause-without_origin
+returns-clause-without_origin c s order more asked bytes cause is submitted without nothing =
+    let now = sessions_after s (order ++ more) in
+    let (later, e) = beginning s order more in
+    let against = own_nothing s now (order_entries s order) later bytes (asked_call (order_log s order) is.procedure asked) cause (submitted_is_own s order asked bytes is submitted c.entries_have_their_heads.ensures.calls later)
+    (subst (λ (xs : List Entry). outcome_behind s now xs bytes ≡ Nothing cause) e nothing) in
+    absurd (let none = sym (ap (λ (o : Option Origin). session_cause o now asked.request) without) ∙ against in cc)
+
+pub returns-clause-superseded : goal.returns-clause-superseded
+returns-clause-superseded c s order more asked bytes is submitted =
+    let now = sessions_after s (order ++ more) in
+    let (later, e) = beginning s order more in
+    let call = asked_call (order_log s order) is.procedure asked in
+    let own = submitted_is_own s order asked bytes is submitted c.entries_have_their_heads.ensures.calls later in (
+      λ nothing. own_nothing s now (order_entries s order) later bytes call Superseded own (subst (λ (xs : List Entry). outcome_behind s now xs bytes ≡ Nothing Superseded) e nothing),
+      λ against. subst (λ (xs : List Entry). outcome_behind s now xs bytes ≡ Nothing Superseded) (sym e) (nothing_own s now (order_entries s order) later bytes call Superseded own against),
+    )

@@ -1,4 +1,4 @@
-use Rattle.site_model.proofs.OrderLemmas.{first_sessions, next_sessions}
+use Rattle.site_model.proofs.OrderLemmas.{first_sessions, next_sessions, opened_few}
 use Rattle.site_model.proofs.laws.sessions_go_on.Goals as goal
 
 pub returns-clause-first : goal.returns-clause-first
@@ -6,3 +6,6 @@ returns-clause-first c s = first_sessions s
 
 pub returns-clause-next : goal.returns-clause-next
 returns-clause-next c s order bytes = next_sessions s order bytes
+
+pub returns-clause-count : goal.returns-clause-count
+returns-clause-count c s order = opened_few s order

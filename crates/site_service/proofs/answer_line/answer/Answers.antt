@@ -23,10 +23,10 @@ pub returns-in-Ok-Some-clause-stands : goal.returns-in-Ok-Some-clause-stands
 returns-in-Ok-Some-clause-stands g c =
     let says = says_this (line_says c.args.line.now) c.in-Ok-Some.field-0 (Some c.in-Ok-Some.request) c.in-Ok-Some.ensures.exact c.in-Ok-Some.field-0-is in
     ok_gives c.answer_request.result _ _ c.answer_request.ensures.stands (λ next given order stands.
-    subst (λ s. StandsForOrder next (order_behind order s)) (sym says) (given order stands))
+    subst (λ s. StandsForOrder next (order_behind (setting_of c.args.site) order s)) (sym says) (given order stands))
 
 pub returns-else-eq-clause-stands : goal.returns-else-eq-clause-stands
 returns-else-eq-clause-stands g c =
     let known : c.in-Err.fault ≢ NoMemory = search rules in
     let says = says_fault (line_says c.args.line.now) c.in-Err.fault NoMemory c.in-Err.ensures.fault known in
-    λ order stands. subst (λ s. StandsForOrder c.args.site (order_behind order s)) (sym says) stands
+    λ order stands. subst (λ s. StandsForOrder c.args.site (order_behind (setting_of c.args.site) order s)) (sym says) stands

@@ -23,8 +23,8 @@ loop-preserved g c = (
       let so_far = c.loop.invariant.1 bytes known in
       written_onto {A = g.row.A.Denot} (g.W.Write.contents c.args.output.now) (g.W.Write.contents c.loop.output) (g.W.Write.contents c.answer_at_hand.new.output) (setting_of c.args.site) (setting_of c.loop.site) [] bytes (g.R.Read.remaining c.loop.input)
       (g.R.Read.remaining c.answer_at_hand.new.input) 1 c.loop.number c.loop.site so_far (Ok (Some c.in-Some.progress)) c.loop.invariant.0
-      (subst (λ o. LeavesLines (setting_of c.loop.site) (order_after [] so_far.lines) so_far.rest (g.R.Read.remaining c.answer_at_hand.new.input) c.loop.number (g.W.Write.contents c.loop.output) (g.W.Write.contents c.answer_at_hand.new.output) (Ok o)) c.in-Some.is
-      (c.in_ok-progress.ensures.given so_far.rest so_far.known (order_after [] so_far.lines) so_far.stands)),
+      (subst (λ o. LeavesLines (setting_of c.loop.site) (order_after (setting_of c.args.site) [] so_far.lines) so_far.rest (g.R.Read.remaining c.answer_at_hand.new.input) c.loop.number (g.W.Write.contents c.loop.output) (g.W.Write.contents c.answer_at_hand.new.output) (Ok o)) c.in-Some.is
+      (c.in_ok-progress.ensures.given so_far.rest so_far.known (order_after (setting_of c.args.site) [] so_far.lines) so_far.stands)),
 )
 
 pub returns-in_err-progress : goal.returns-in_err-progress
@@ -35,15 +35,15 @@ returns-in_err-progress g c = λ bytes known.
     (leaves_err g.row.A.Denot (setting_of c.args.site) bytes (g.R.Read.remaining c.answer_at_hand.new.input) (g.W.Write.contents c.args.output.now) (g.W.Write.contents c.answer_at_hand.new.output) c.in_err-progress.field-0.0
     (written_onto {A = g.row.A.Denot} (g.W.Write.contents c.args.output.now) (g.W.Write.contents c.loop.output) (g.W.Write.contents c.answer_at_hand.new.output) (setting_of c.args.site) (setting_of c.loop.site) [] bytes (g.R.Read.remaining c.loop.input)
     (g.R.Read.remaining c.answer_at_hand.new.input) 1 c.loop.number c.loop.site so_far (Err c.in_err-progress.field-0.0) c.loop.invariant.0
-    (c.in_err-progress.ensures.given so_far.rest so_far.known (order_after [] so_far.lines) so_far.stands)))
+    (c.in_err-progress.ensures.given so_far.rest so_far.known (order_after (setting_of c.args.site) [] so_far.lines) so_far.stands)))
 
 pub returns-in-None : goal.returns-in-None
 returns-in-None g c = λ bytes known.
     let so_far = c.loop.invariant.1 bytes known in
     written_onto {A = g.row.A.Denot} (g.W.Write.contents c.args.output.now) (g.W.Write.contents c.loop.output) (g.W.Write.contents c.answer_at_hand.new.output) (setting_of c.args.site) (setting_of c.loop.site) [] bytes (g.R.Read.remaining c.loop.input)
     (g.R.Read.remaining c.answer_at_hand.new.input) 1 c.loop.number c.loop.site so_far (Ok None) c.loop.invariant.0
-    (subst (λ o. LeavesLines (setting_of c.loop.site) (order_after [] so_far.lines) so_far.rest (g.R.Read.remaining c.answer_at_hand.new.input) c.loop.number (g.W.Write.contents c.loop.output) (g.W.Write.contents c.answer_at_hand.new.output) (Ok o)) c.in-None.is
-    (c.in_ok-progress.ensures.given so_far.rest so_far.known (order_after [] so_far.lines) so_far.stands))
+    (subst (λ o. LeavesLines (setting_of c.loop.site) (order_after (setting_of c.args.site) [] so_far.lines) so_far.rest (g.R.Read.remaining c.answer_at_hand.new.input) c.loop.number (g.W.Write.contents c.loop.output) (g.W.Write.contents c.answer_at_hand.new.output) (Ok o)) c.in-None.is
+    (c.in_ok-progress.ensures.given so_far.rest so_far.known (order_after (setting_of c.args.site) [] so_far.lines) so_far.stands))
 
 pub returns : goal.returns
 returns g c = λ bytes known.

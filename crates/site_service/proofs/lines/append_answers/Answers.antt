@@ -24,8 +24,8 @@ loop-number-preserved g c = (
       subst (ComesTo (setting_of c.args.site) order bytes (g.R.Read.remaining c.append_next.new.input) c.args.first (HasTakenMore g.W.Write.contents c.args.sink.now c.append_next.new.sink) c.in-Some.progress.site) numbered
       (appended_onto {A = g.row.A.Denot} g.W.Write.contents c.args.sink.now c.loop-number.sink c.append_next.new.sink (setting_of c.args.site) (setting_of c.loop-number.site) order bytes (g.R.Read.remaining c.loop-number.input) (g.R.Read.remaining c.append_next.new.input)
       c.args.first c.loop-number.number c.loop-number.site so_far (Ok (Some c.in-Some.progress)) c.loop-number.invariant.0
-      (subst (λ o. GivesLines (setting_of c.loop-number.site) (order_after order so_far.lines) so_far.rest (g.R.Read.remaining c.append_next.new.input) c.loop-number.number (HasTakenMore g.W.Write.contents c.loop-number.sink c.append_next.new.sink) IsNoText (Ok o)) c.in-Some.is
-      (c.in_ok-progress.ensures.given so_far.rest so_far.known (order_after order so_far.lines) so_far.stands))),
+      (subst (λ o. GivesLines (setting_of c.loop-number.site) (order_after (setting_of c.args.site) order so_far.lines) so_far.rest (g.R.Read.remaining c.append_next.new.input) c.loop-number.number (HasTakenMore g.W.Write.contents c.loop-number.sink c.append_next.new.sink) IsNoText (Ok o)) c.in-Some.is
+      (c.in_ok-progress.ensures.given so_far.rest so_far.known (order_after (setting_of c.args.site) order so_far.lines) so_far.stands))),
 )
 
 pub returns-in_err-progress-clause-given : goal.returns-in_err-progress-clause-given
@@ -35,23 +35,23 @@ returns-in_err-progress-clause-given g c = λ bytes known order stands.
     subst (GivesLines (setting_of c.args.site) order bytes (g.R.Read.remaining c.append_next.new.input) c.args.first (HasTakenMore g.W.Write.contents c.args.sink.now c.append_next.new.sink) IsNoText) (sym (p.1 ∙ ap (λ (x : Stop). Err x) p.2))
     (appended_onto {A = g.row.A.Denot} g.W.Write.contents c.args.sink.now c.loop-number.sink c.append_next.new.sink (setting_of c.args.site) (setting_of c.loop-number.site) order bytes (g.R.Read.remaining c.loop-number.input) (g.R.Read.remaining c.append_next.new.input)
     c.args.first c.loop-number.number c.loop-number.site so_far (Err c.in_err-progress.field-0.0) c.loop-number.invariant.0
-    (c.in_err-progress.ensures.given so_far.rest so_far.known (order_after order so_far.lines) so_far.stands))
+    (c.in_err-progress.ensures.given so_far.rest so_far.known (order_after (setting_of c.args.site) order so_far.lines) so_far.stands))
 
 pub returns-then-not-progress-clause-given : goal.returns-then-not-progress-clause-given
 returns-then-not-progress-clause-given g c = λ bytes known order stands.
     let so_far = c.loop-number.invariant.1 bytes known order stands in
     appended_onto {A = g.row.A.Denot} g.W.Write.contents c.args.sink.now c.loop-number.sink c.append_next.new.sink (setting_of c.args.site) (setting_of c.loop-number.site) order bytes (g.R.Read.remaining c.loop-number.input) (g.R.Read.remaining c.append_next.new.input)
     c.args.first c.loop-number.number c.loop-number.site so_far (Ok (Some c.in-Some.progress)) c.loop-number.invariant.0
-    (subst (λ o. GivesLines (setting_of c.loop-number.site) (order_after order so_far.lines) so_far.rest (g.R.Read.remaining c.append_next.new.input) c.loop-number.number (HasTakenMore g.W.Write.contents c.loop-number.sink c.append_next.new.sink) IsNoText (Ok o)) c.in-Some.is
-    (c.in_ok-progress.ensures.given so_far.rest so_far.known (order_after order so_far.lines) so_far.stands))
+    (subst (λ o. GivesLines (setting_of c.loop-number.site) (order_after (setting_of c.args.site) order so_far.lines) so_far.rest (g.R.Read.remaining c.append_next.new.input) c.loop-number.number (HasTakenMore g.W.Write.contents c.loop-number.sink c.append_next.new.sink) IsNoText (Ok o)) c.in-Some.is
+    (c.in_ok-progress.ensures.given so_far.rest so_far.known (order_after (setting_of c.args.site) order so_far.lines) so_far.stands))
 
 pub returns-in-None-clause-given : goal.returns-in-None-clause-given
 returns-in-None-clause-given g c = λ bytes known order stands.
     let so_far = c.loop-number.invariant.1 bytes known order stands in
     appended_onto {A = g.row.A.Denot} g.W.Write.contents c.args.sink.now c.loop-number.sink c.append_next.new.sink (setting_of c.args.site) (setting_of c.loop-number.site) order bytes (g.R.Read.remaining c.loop-number.input) (g.R.Read.remaining c.append_next.new.input)
     c.args.first c.loop-number.number c.loop-number.site so_far (Ok None) c.loop-number.invariant.0
-    (subst (λ o. GivesLines (setting_of c.loop-number.site) (order_after order so_far.lines) so_far.rest (g.R.Read.remaining c.append_next.new.input) c.loop-number.number (HasTakenMore g.W.Write.contents c.loop-number.sink c.append_next.new.sink) IsNoText (Ok o)) c.in-None.is
-    (c.in_ok-progress.ensures.given so_far.rest so_far.known (order_after order so_far.lines) so_far.stands))
+    (subst (λ o. GivesLines (setting_of c.loop-number.site) (order_after (setting_of c.args.site) order so_far.lines) so_far.rest (g.R.Read.remaining c.append_next.new.input) c.loop-number.number (HasTakenMore g.W.Write.contents c.loop-number.sink c.append_next.new.sink) IsNoText (Ok o)) c.in-None.is
+    (c.in_ok-progress.ensures.given so_far.rest so_far.known (order_after (setting_of c.args.site) order so_far.lines) so_far.stands))
 
 pub returns-clause-given : goal.returns-clause-given
 returns-clause-given g c = λ bytes known order stands.

@@ -25,10 +25,11 @@ returns-clause-stands g c entries e f =
     let s : SiteReplica = record {
       catalogue = c.self.inside.catalogue;
       takes_additions = c.self.inside.takes_additions;
+      origin = c.self.inside.origin;
       replica = c.self.inside.replica;
       replies = c.self.inside.replies.items;
       additions = c.self.inside.additions.items;
-      lasts = c.self.inside.lasts;
+      sessions = c.self.inside.sessions;
     } in
     let inner : Follows s entries e c.args.entry.now = subst (λ (x : SiteReplica). Follows x entries e c.args.entry.now) (sym c.self.view_is) f in
     let stands = delivered s entries e c.args.entry.now c.fit_entries_go_on.ensures.one_more c.fit_entries_go_on.ensures.next c.a_log_only_grows.ensures.procedures c.procedures_are_never_lost.ensures c.procedures_after_each_item.ensures.call
@@ -39,16 +40,18 @@ returns-clause-stands g c entries e f =
     subst (λ (xs : List (ℕ × ℕ)). StandsForLog (record {
       catalogue = c.self.inside.catalogue;
       takes_additions = c.self.inside.takes_additions;
+      origin = c.self.inside.origin;
       replica = c.deliver.new.self;
       replies = c.push.new.self.items;
       additions = xs;
-      lasts = c.self.inside.lasts;
+      sessions = c.self.inside.sessions;
     }) (entries ++ e ∷ [])) (sym additions)
     (subst (λ (xs : List ℕ). StandsForLog (record {
       catalogue = c.self.inside.catalogue;
       takes_additions = c.self.inside.takes_additions;
+      origin = c.self.inside.origin;
       replica = c.deliver.new.self;
       replies = xs;
       additions = additions_after c.self.inside.additions.items (entry_of c.args.entry.now) c.in-Ok.verdict c.deliver.new.self.position;
-      lasts = c.self.inside.lasts;
+      sessions = c.self.inside.sessions;
     }) (entries ++ e ∷ [])) (sym replies) stands)
