@@ -108,13 +108,19 @@ class Drawn:
             self.settled.append((self.given[at], snapshot, tuple(asked)))
 
     def lie(self):
-        """Returns a commit that an answer had ruled out: behind it, of the same call, on rows that aren't newer."""
+        """Returns a commit that can't be: of a pair that was done, of a session that has gone on, or one that an answer had
+        ruled out: behind it, of the same call, on rows that aren't newer."""
+        committed = []
         for d, writes in enumerate(self.sites[0].writes, 1):
             if not writes:
                 continue
             _, *asked, snapshot = self.sites[0].head(self.order[d - 1])
-            if asked[0] in self.before:
+            if asked[0] in [*self.before, *committed]:
                 return f"{asked} was done before, and commits at {d}"
+            session, sequence = asked[0]
+            if self.sites[0].origin is not None and any(s == session and q > sequence for s, q in [*self.before, *committed]):
+                return f"{asked} commits at {d}, though its session has gone on"
+            committed += [asked[0]] if session else []
             for position, newest, settled in self.settled:
                 if settled == tuple(asked) and settled[0] != (0, 0) and position < d and snapshot <= newest:
                     return f"{settled} was settled at {position}, and commits at {d}"

@@ -2,7 +2,7 @@
 use Rattle.std.proofs.Common.{◌≡◌, ◌⊎◌, inl, inr, ℕ, List, Option, Some, None, IfSome, refl}
 use Rattle.script.specs.Telling.{FAILED, status_of_cause}
 use Rattle.script.specs.declared.cause.FaultCause.{FaultCause}
-use Rattle.script.specs.declared.cause.FaultCause.TheVariants.{Line, Place, Table, Program, Refused, Procedure, NoMemory, Row, Request}
+use Rattle.script.specs.declared.cause.FaultCause.TheVariants.{Line, Place, Table, Program, Refused, Procedure, NoMemory, Row, Request, Session}
 
 -- of bytes, where they are known
 pub if_known : (a : Option (List ℕ)) (P : List ℕ → Type 0) → ((bytes : List ℕ) → a ≡ Some bytes → P bytes) → IfSome a P
@@ -20,3 +20,4 @@ memory_or_not (Procedure fault) status e = inr e
 memory_or_not NoMemory status e = inl e
 memory_or_not (Row fault) status e = inr e
 memory_or_not (Request fault) status e = inr e
+memory_or_not Session status e = inr e

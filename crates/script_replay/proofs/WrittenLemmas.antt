@@ -8,7 +8,7 @@ use Rattle.byte_output.specs.Writes.{AppendsBeginning}
 use Rattle.byte_output.proofs.PendingLemmas.{Writes-finished}
 use Rattle.script.specs.Telling.{FAILED, SaysEnd, SaysStream, fault_line, status_of_cause}
 use Rattle.script.specs.declared.cause.FaultCause.{FaultCause}
-use Rattle.script.specs.declared.cause.FaultCause.TheVariants.{Line, Place, Table, Program, Refused, Procedure, NoMemory, Row, Request}
+use Rattle.script.specs.declared.cause.FaultCause.TheVariants.{Line, Place, Table, Program, Refused, Procedure, NoMemory, Row, Request, Session}
 use Rattle.script.proofs.TellingLemmas.{memory_or_not}
 use Rattle.script_replay.specs.Acting.{PassesBeginning}
 use Rattle.script.specs.declared.stop.Stop.{Stop}
@@ -133,6 +133,7 @@ wants (Procedure fault) e = absurd cc
 wants NoMemory e = refl
 wants (Row fault) e = absurd cc
 wants (Request fault) e = absurd cc
+wants Session e = absurd cc
 
 -- the line at which memory was wanting is told, or what a stream says
 pub told_failed : (bytes : List ℕ) (left old new old_faults new_faults : Option (List ℕ)) (stop : Stop) (status : ℕ) → WritesUpToWant bytes left old new stop → SaysEnd old_faults new_faults stop status → status ≡ FAILED

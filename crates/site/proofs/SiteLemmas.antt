@@ -124,33 +124,39 @@ is_true_where w log call bytes e b some same is =
 
 -- ---- a call, test by test
 
-module _ (s : SiteSetting) (known : Sessions) (log : Log) (call : Call) (bytes : List ℕ) where
+module _ (s : SiteReplica) (entries : List Entry) (call : Call) (bytes : List ℕ) (position : ℕ) (stands : StandsForLog s entries) (here : position ≡ s.replica.position) where
   abbrev w : Setting
-  w = s.setting
+  w = (setting_of s).setting
 
-  -- behind the test of its snapshot
+  abbrev log : Log
+  log = items_of entries
+
+  abbrev of_call : model.Standing
+  of_call = call_standing (setting_of s) s.sessions log call bytes
+
+  -- behind the test of its snapshot, and behind that of what is known of its request
   abbrev by_request : Option NothingCause → model.Standing
   by_request o = request_standing w log call bytes o
 
-  pub late : length log < call.snapshot → call_standing s known log call bytes ≡ IsNothing cause.Snapshot
-  late lt =
-      let a : not (nat_le call.snapshot (length log)) ≡ true = grind (arith, nat_tests) in
-      ap (λ b. cond b (IsNothing cause.Snapshot) (by_request (session_cause s.origin known call.request))) a
+  module _ (reached : nat_lt position call.snapshot ≡ false) where
+    early : not (nat_le call.snapshot (length log)) ≡ false
+    early = let long = log_long s entries stands in grind (arith, nat_tests)
 
-  early : call.snapshot ≤ length log → not (nat_le call.snapshot (length log)) ≡ false
-  early le = grind (arith, nat_tests)
+    pub at_session : (o : Option NothingCause) → session_cause s.origin s.sessions call.request ≡ o → of_call ≡ by_request o
+    at_session o e = (λ i. cond (early i) (IsNothing cause.Snapshot) (by_request (e i)))
 
-  pub at_session : call.snapshot ≤ length log → (o : Option NothingCause) → session_cause s.origin known call.request ≡ o → call_standing s known log call bytes ≡ by_request o
-  at_session le o e = (λ i. cond (early le i) (IsNothing cause.Snapshot) (by_request (e i)))
+    module _ (inside : session_cause s.origin s.sessions call.request ≡ None) where
+      by_tests : (d : Bool) → is_decided w log call ≡ d → of_call ≡ cond d (IsDecided call) (cond (not (takes_arguments (procedure_of w log call) call.args)) (IsNothing cause.Procedure) (run_standing w log call bytes))
+      by_tests d e = at_session None inside ∙ ap (λ b. cond b (IsDecided call) (cond (not (takes_arguments (procedure_of w log call) call.args)) (IsNothing cause.Procedure) (run_standing w log call bytes))) e
 
-  pub at_decided : call.snapshot ≤ length log → session_cause s.origin known call.request ≡ None → is_decided w log call ≡ true → call_standing s known log call bytes ≡ IsDecided call
-  at_decided le o d = at_session le None o ∙ (λ i. cond (d i) (IsDecided call) (cond (not (takes_arguments (procedure_of w log call) call.args)) (IsNothing cause.Procedure) (run_standing w log call bytes)))
+      pub at_decided : is_decided w log call ≡ true → of_call ≡ IsDecided call
+      at_decided d = by_tests true d
 
-  pub at_procedure : call.snapshot ≤ length log → session_cause s.origin known call.request ≡ None → is_decided w log call ≡ false → takes_arguments (procedure_of w log call) call.args ≡ false → call_standing s known log call bytes ≡ IsNothing cause.Procedure
-  at_procedure le o d t = at_session le None o ∙ (λ i. cond (d i) (IsDecided call) (cond (not (t i)) (IsNothing cause.Procedure) (run_standing w log call bytes)))
+      pub at_procedure : is_decided w log call ≡ false → takes_arguments (procedure_of w log call) call.args ≡ false → of_call ≡ IsNothing cause.Procedure
+      at_procedure d t = by_tests false d ∙ ap (λ b. cond (not b) (IsNothing cause.Procedure) (run_standing w log call bytes)) t
 
-  pub at_run : call.snapshot ≤ length log → session_cause s.origin known call.request ≡ None → is_decided w log call ≡ false → takes_arguments (procedure_of w log call) call.args ≡ true → call_standing s known log call bytes ≡ run_standing w log call bytes
-  at_run le o d t = at_session le None o ∙ (λ i. cond (d i) (IsDecided call) (cond (not (t i)) (IsNothing cause.Procedure) (run_standing w log call bytes)))
+      pub at_run : is_decided w log call ≡ false → takes_arguments (procedure_of w log call) call.args ≡ true → of_call ≡ run_standing w log call bytes
+      at_run d t = by_tests false d ∙ ap (λ b. cond (not b) (IsNothing cause.Procedure) (run_standing w log call bytes)) t
 
 pub none_found : (tables : Tables) (o : Option StoredProcedure) (args : List ℕ) → None ≡ option_map (accepted_of tables) o → takes_arguments o args ≡ false
 none_found tables None args e = refl

@@ -17,8 +17,9 @@ use std::marker::Model;
 #[derive(Drop)]
 pub struct Sessions<A: Allocator = Global> {
     /// The number of sessions that the order opened.
-    opened: u32,
-    lasts: LastRequests<A>,
+    pub opened: u32,
+    /// The last request of each session, in the order or before.
+    pub lasts: LastRequests<A>,
 }
 
 impl<A: Allocator> Model for Sessions<A> {
@@ -62,20 +63,6 @@ impl<A: Allocator + Copy> Sessions<A> {
     {
         let lasts = lasts_of(alloc, done)?;
         Ok(Sessions { opened: 0, lasts })
-    }
-
-    /// Returns the number of sessions that the order opened.
-    pub fn opened(&self) -> u32
-        ensures { result ≡ self.now.opened }
-    {
-        self.opened
-    }
-
-    /// The last request of each session.
-    pub fn lasts(&self) -> &LastRequests<A>
-        ensures { result.now ≡ self.now.lasts }
-    {
-        &self.lasts
     }
 
     /// Returns the number of the session that bytes at the next position open.

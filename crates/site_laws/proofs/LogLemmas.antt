@@ -14,6 +14,7 @@ use Rattle.log_model.specs.Entries.{Entry, ExecutedCall, CallEntry, AdditionEntr
 use Rattle.log_model.proofs.GrowthLemmas.{is_log_snoc}
 use Rattle.dsm_model.specs.World.{numbered}
 use Rattle.site_model.specs.Fit.{AreFitEntries}
+use Rattle.site_model.specs.declared.outcome.EntryOutcome.{EntryOutcome}
 use Rattle.site_model.specs.declared.outcome.EntryOutcome.TheVariants as outcome
 use Rattle.site_model.specs.Sessions.{Sessions}
 use Rattle.site_model.specs.Standing.{SiteSetting, Standing, StandsAs, IsDecided, OpensSession, IsNothing, standing}
@@ -95,15 +96,26 @@ some_verdict : (o : Option Verdict) → IsSome o → (v : Verdict) × (o ≡ Som
 some_verdict None h = absurd cc
 some_verdict (Some v) h = (v, refl)
 
+-- what is told of what commits alone
+abbrev IsCommitted : EntryOutcome → Type 0
+IsCommitted (outcome.Committed reply) = Unit {0}
+IsCommitted (outcome.Added number) = Unit {0}
+IsCommitted _ = ⊥
+
+pub by_commit : (replies : ℕ → ℕ) (c d : EntryOutcome) (v : Verdict) → IsCommitted d → outcome_by replies c (Some v) ≡ d → (v ≡ verdict.Commit) × (c ≡ d)
+by_commit replies c d verdict.Commit is e = (refl, e)
+by_commit replies c d (verdict.Conflict n) is e = absurd (subst IsCommitted (sym e) is)
+by_commit replies c d verdict.Stale is e = absurd (subst IsCommitted (sym e) is)
+by_commit replies c d (verdict.Repeated n) is e = absurd (subst IsCommitted (sym e) is)
+by_commit replies c d (verdict.Taken i) is e = absurd (subst IsCommitted (sym e) is)
+
 commits : (replies : ℕ → ℕ) (told reply : ℕ) (v : Verdict) → outcome_by replies (outcome.Committed told) (Some v) ≡ outcome.Committed reply → (v ≡ verdict.Commit) × (told ≡ reply)
-commits replies told reply verdict.Commit e = (refl, one told reply e)
+commits replies told reply v e =
+    let (commit, same) = by_commit replies (outcome.Committed told) (outcome.Committed reply) v tt e in
+    (commit, one told reply same)
   where
     one : (a b : ℕ) → outcome.Committed a ≡ outcome.Committed b → a ≡ b
     one a b e = cc
-commits replies told reply (verdict.Conflict n) e = absurd cc
-commits replies told reply verdict.Stale e = absurd cc
-commits replies told reply (verdict.Repeated n) e = absurd cc
-commits replies told reply (verdict.Taken i) e = absurd cc
 
 module _ (s : SiteSetting) (known : Sessions) (entries : List Entry) (bytes : List ℕ) where
   pub last_verdict : HaveVerdicts → (v : Verdict) × (verdict_of s.setting (items_of (with_bytes s known entries bytes)) (suc (length entries)) ≡ Some v)

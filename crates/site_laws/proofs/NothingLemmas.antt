@@ -20,6 +20,7 @@ use Rattle.site_model.specs.Sessions.{Sessions}
 use Rattle.site_model.specs.Standing.{SiteSetting, Standing, StandsAs, IsDecided, OpensSession, IsNothing, standing}
 use Rattle.site_model.specs.Order.{replies_to, call_of_none, entry_standing, next_entry, outcome_behind, outcome_by, reply_in, with_bytes}
 use Rattle.site_model.proofs.StandingLemmas.{runs_none}
+use Rattle.site_laws.specs.Nothing.{ChangesNothing}
 use Rattle.site_laws.specs.Requests.{with_reply}
 use Rattle.site_laws.proofs.LogLemmas.{HaveVerdicts, at_last, item_there, items_go_on, items_snoc, last_verdict}
 use Rattle.site_laws.proofs.OutcomeLemmas.{IsIdle}
@@ -177,14 +178,8 @@ module _ (s : SiteSetting) (known : Sessions) (entries : List Entry) (bytes : Li
           same_verdict a b e = cc
       by_standing v at (IsDecided call) is =
           (_, there (IsDecided call) is, at ∙ ap Some (conflict_by (replies_to s (with_bytes s known entries bytes) bytes) outcome.Stale position v (λ x. absurd cc) (sym (at_last s known entries bytes v at (IsDecided call) is) ∙ told)))
-      by_standing v at (OpensSession session) is = absurd (opened_else session (sym (at_last s known entries bytes v at (OpensSession session) is) ∙ told))
-        where
-          opened_else : (session : ℕ) → outcome.Session session ≡ outcome.Conflict position → ⊥
-          opened_else session e = absurd cc
-      by_standing v at (IsNothing c) is = absurd (nothing_else c (sym (at_last s known entries bytes v at (IsNothing c) is) ∙ told))
-        where
-          nothing_else : (c : NothingCause) → outcome.Nothing c ≡ outcome.Conflict position → ⊥
-          nothing_else c e = absurd cc
+      by_standing v at (OpensSession session) is = absurd (subst ChangesNothing (sym (at_last s known entries bytes v at (OpensSession session) is) ∙ told) tt)
+      by_standing v at (IsNothing c) is = absurd (subst ChangesNothing (sym (at_last s known entries bytes v at (IsNothing c) is) ∙ told) tt)
 
 -- entries that go on from those behind what changes nothing, and one byte string more
 pub never_in_conflict : (s : SiteSetting) (known now : Sessions) (entries later all : List Entry) (nothing bytes : List ℕ) → HaveVerdicts → ConflictMeans → all ≡ with_bytes s known entries nothing ++ later

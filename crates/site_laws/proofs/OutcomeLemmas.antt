@@ -21,7 +21,7 @@ use Rattle.site_model.specs.Answer.{stored_as}
 use Rattle.site_model.proofs.StandingLemmas.{addition_cases, call_cases, stands_as_addition, stands_as_call, standing_cases}
 use Rattle.site_laws.specs.Added.{NamesProcedure}
 use Rattle.site_laws.specs.Nothing.{ChangesNothing}
-use Rattle.site_laws.proofs.LogLemmas.{HaveVerdicts, at_last, last_verdict}
+use Rattle.site_laws.proofs.LogLemmas.{HaveVerdicts, at_last, by_commit, last_verdict}
 use Rattle.site_laws.proofs.SettledLemmas.{stands_by}
 
 -- ---- an addition
@@ -84,28 +84,20 @@ IsIdle s known entries bytes =
 
 never_committed : (replies : ℕ → ℕ) (number : ℕ) (v : Option Verdict) (reply : ℕ) → outcome_by replies (outcome.Added number) v ≡ outcome.Committed reply → ⊥
 never_committed replies number None reply e = absurd cc
-never_committed replies number (Some verdict.Commit) reply e = absurd cc
-never_committed replies number (Some (verdict.Conflict n)) reply e = absurd cc
-never_committed replies number (Some verdict.Stale) reply e = absurd cc
-never_committed replies number (Some (verdict.Repeated n)) reply e = absurd cc
-never_committed replies number (Some (verdict.Taken i)) reply e = absurd cc
+never_committed replies number (Some v) reply e =
+    let same = (by_commit replies (outcome.Added number) (outcome.Committed reply) v tt e).1 in
+    absurd cc
 
 never_added : (replies : ℕ → ℕ) (c : EntryOutcome) (number : ℕ) (v : Verdict) → (c ≡ outcome.Added number → ⊥) → outcome_by replies c (Some v) ≡ outcome.Added number → ⊥
-never_added replies c number verdict.Commit isnt e = isnt e
-never_added replies c number (verdict.Conflict n) isnt e = absurd cc
-never_added replies c number verdict.Stale isnt e = absurd cc
-never_added replies c number (verdict.Repeated n) isnt e = absurd cc
-never_added replies c number (verdict.Taken i) isnt e = absurd cc
+never_added replies c number v isnt e = isnt (by_commit replies c (outcome.Added number) v tt e).1
 
 adds : (replies : ℕ → ℕ) (told number : ℕ) (v : Verdict) → outcome_by replies (outcome.Added told) (Some v) ≡ outcome.Added number → (v ≡ verdict.Commit) × (told ≡ number)
-adds replies told number verdict.Commit e = (refl, one told number e)
+adds replies told number v e =
+    let (commit, same) = by_commit replies (outcome.Added told) (outcome.Added number) v tt e in
+    (commit, one told number same)
   where
     one : (a b : ℕ) → outcome.Added a ≡ outcome.Added b → a ≡ b
     one a b e = cc
-adds replies told number (verdict.Conflict n) e = absurd cc
-adds replies told number verdict.Stale e = absurd cc
-adds replies told number (verdict.Repeated n) e = absurd cc
-adds replies told number (verdict.Taken i) e = absurd cc
 
 module _ (s : SiteSetting) (known : Sessions) (entries : List Entry) (bytes : List ℕ) where
   abbrev all : List Entry
@@ -142,14 +134,8 @@ module _ (s : SiteSetting) (known : Sessions) (entries : List Entry) (bytes : Li
           let (commit, same) = adds (replies_to s all bytes) p.number number v (sym (at_last s known entries bytes v at (StandsAs (AdditionEntry p)) is) ∙ told) in
           (p, is, at ∙ ap Some commit, same)
       by_standing v at (IsDecided call) is = absurd (never_added (replies_to s all bytes) outcome.Stale number v (λ x. absurd cc) (sym (at_last s known entries bytes v at (IsDecided call) is) ∙ told))
-      by_standing v at (OpensSession session) is = absurd (opened_else session (sym (at_last s known entries bytes v at (OpensSession session) is) ∙ told))
-        where
-          opened_else : (session : ℕ) → outcome.Session session ≡ outcome.Added number → ⊥
-          opened_else session e = absurd cc
-      by_standing v at (IsNothing c) is = absurd (nothing_else c (sym (at_last s known entries bytes v at (IsNothing c) is) ∙ told))
-        where
-          nothing_else : (c : NothingCause) → outcome.Nothing c ≡ outcome.Added number → ⊥
-          nothing_else c e = absurd cc
+      by_standing v at (OpensSession session) is = absurd (subst ChangesNothing (sym (at_last s known entries bytes v at (OpensSession session) is) ∙ told) tt)
+      by_standing v at (IsNothing c) is = absurd (subst ChangesNothing (sym (at_last s known entries bytes v at (IsNothing c) is) ∙ told) tt)
 
   -- what changes nothing is a call of no procedure in the log
   pub idle_from : HaveVerdicts → ChangesNothing (outcome_behind s known entries bytes) → IsIdle s known entries bytes

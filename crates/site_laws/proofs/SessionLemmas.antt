@@ -13,10 +13,10 @@ use Rattle.site_model.specs.declared.cause.NothingCause.{NothingCause}
 use Rattle.site_model.specs.declared.cause.NothingCause.TheVariants.{UnknownSession, Superseded}
 use Rattle.site_model.specs.declared.origin.Origin.{Origin}
 use Rattle.site_model.specs.declared.outcome.EntryOutcome.{EntryOutcome}
-use Rattle.site_model.specs.declared.outcome.EntryOutcome.TheVariants as outcome
-use Rattle.site_model.specs.Sessions.{LastRequests, Sessions, done_by, is_known, is_superseded, opened_with, session_cause, sessions_with, with_done, with_done_if}
+use Rattle.site_model.specs.Sessions.{LastRequests, Sessions, done_by, is_known, is_superseded, session_cause, sessions_with, with_done, with_done_if}
 use Rattle.site_model.specs.Standing.{SiteSetting}
 use Rattle.site_model.specs.Order.{Order, next_outcome, sessions_after}
+use Rattle.site_model.proofs.OrderLemmas.{opens_one}
 
 -- ---- last requests
 
@@ -67,19 +67,9 @@ pub record KnowsMore (before now : Sessions) : Type 0 where
   pub opened : before.opened ≤ now.opened
   pub lasts : Reach before.lasts now.lasts
 
-opens_none_less : (opened : ℕ) (o : EntryOutcome) → opened ≤ opened_with opened o
-opens_none_less opened (outcome.Session session) = omega arith
-opens_none_less opened (outcome.Committed reply) = omega arith
-opens_none_less opened (outcome.Conflict position) = omega arith
-opens_none_less opened outcome.Stale = omega arith
-opens_none_less opened (outcome.Repeated position reply) = omega arith
-opens_none_less opened (outcome.Added number) = omega arith
-opens_none_less opened (outcome.Taken identifier) = omega arith
-opens_none_less opened (outcome.Nothing cause) = omega arith
-
 one_more : (known : Sessions) (bytes : List ℕ) (o : EntryOutcome) → KnowsMore known (sessions_with known bytes o)
 one_more known bytes o = record {
-  opened = opens_none_less known.opened o;
+  opened = (opens_one known.opened o).0;
   lasts = reach_if known.lasts (done_by (head_of bytes) o);
 }
 

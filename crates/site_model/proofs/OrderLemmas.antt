@@ -5,17 +5,9 @@ use Rattle.std.proofs.lemmas.List.{length-append}
 use Rattle.std.proofs.lemmas.List.Sums.{fold-append}
 use Rattle.site_model.specs.declared.outcome.EntryOutcome.{EntryOutcome}
 use Rattle.site_model.specs.declared.outcome.EntryOutcome.TheVariants as outcome
-use Rattle.site_model.specs.Sessions.{Sessions, lasts_of, opened_with, sessions_with}
+use Rattle.site_model.specs.Sessions.{opened_with, sessions_with}
 use Rattle.site_model.specs.Standing.{SiteSetting}
 use Rattle.site_model.specs.Order.{Order, Followed, before_order, followed, followed_by, next_outcome, order_entries, outcome_behind, sessions_after, with_bytes}
-
-pub first_entries : (s : SiteSetting) → order_entries s [] ≡ []
-unfolding followed
-first_entries s = refl
-
-pub first_sessions : (s : SiteSetting) → sessions_after s [] ≡ record { opened = 0; lasts = lasts_of s.setting.beginning.requests }
-unfolding followed
-first_sessions s = refl
 
 one_more : (s : SiteSetting) (order : Order) (bytes : List ℕ) → followed s (order ++ bytes ∷ []) ≡ followed_by s (followed s order) bytes
 unfolding followed
@@ -38,21 +30,22 @@ pub count_entries : (s : SiteSetting) (order : Order) → length (order_entries 
 unfolding followed
 count_entries s order = count_from s (before_order s) order ∙ (let none : 0 + length order ≡ length order = omega arith in none)
 
-opens_one : (opened : ℕ) (o : EntryOutcome) → opened_with opened o ≤ opened + 1
-opens_one opened (outcome.Session session) = omega arith
-opens_one opened (outcome.Committed reply) = omega arith
-opens_one opened (outcome.Conflict position) = omega arith
-opens_one opened outcome.Stale = omega arith
-opens_one opened (outcome.Repeated position reply) = omega arith
-opens_one opened (outcome.Added number) = omega arith
-opens_one opened (outcome.Taken identifier) = omega arith
-opens_one opened (outcome.Nothing cause) = omega arith
+-- an outcome opens one session or none
+pub opens_one : (opened : ℕ) (o : EntryOutcome) → (opened ≤ opened_with opened o) × (opened_with opened o ≤ opened + 1)
+opens_one opened (outcome.Session session) = (omega arith, omega arith)
+opens_one opened (outcome.Committed reply) = (omega arith, omega arith)
+opens_one opened (outcome.Conflict position) = (omega arith, omega arith)
+opens_one opened outcome.Stale = (omega arith, omega arith)
+opens_one opened (outcome.Repeated position reply) = (omega arith, omega arith)
+opens_one opened (outcome.Added number) = (omega arith, omega arith)
+opens_one opened (outcome.Taken identifier) = (omega arith, omega arith)
+opens_one opened (outcome.Nothing cause) = (omega arith, omega arith)
 
 opened_from : (s : SiteSetting) (f : Followed) (order : Order) → (fold (followed_by s) f order).sessions.opened ≤ f.sessions.opened + length order
 opened_from s f [] = omega arith
 opened_from s f (bytes ∷ order) =
     let more = opened_from s (followed_by s f bytes) order in
-    let one = opens_one f.sessions.opened (outcome_behind s f.sessions f.entries bytes) in
+    let one = (opens_one f.sessions.opened (outcome_behind s f.sessions f.entries bytes)).1 in
     omega arith
 
 pub opened_few : (s : SiteSetting) (order : Order) → (sessions_after s order).opened ≤ length order

@@ -14,6 +14,7 @@ ghost use Rattle.site_model.specs.Order.{Order, order_entries, next_entry, next_
 use log_model::{entries_suffice, logs_whose_calls_fit, one_more_entry_carries_its_run};
 
 /// The log of an order has an entry for each byte string, and one more byte string adds one entry.
+#[tactic(auto, unfolding(crate::specs::Order::followed))]
 pub fn orders_grow()
     ensures first { (s : SiteSetting) → order_entries s [] ≡ [] }
     ensures next { (s : SiteSetting) (order : Order) (bytes : List ℕ)
@@ -24,6 +25,7 @@ pub fn orders_grow()
 
 /// Before an order each session has done last what its request before says, and no session is opened. Each byte string of
 /// the order changes that by its outcome, and opens one session at most.
+#[tactic(auto, unfolding(crate::specs::Order::followed))]
 pub fn sessions_go_on()
     ensures first { (s : SiteSetting) → sessions_after s []
         ≡ record { opened = 0; lasts = lasts_of s.setting.beginning.requests } }

@@ -18,7 +18,7 @@ type Last = (u32, u64, u16, &'static [u8]);
 
 /// Asserts that a session has done this last, or nothing.
 fn has_last(rt: &impl Abort, site: &Site, session: u32, wanted: Option<Last>) {
-    let Some(done) = site.sessions().lasts().last(session) else {
+    let Some(done) = site.sessions().lasts.last(session) else {
         assert!(rt; wanted.is_none(), "nothing done");
         return;
     };
@@ -122,7 +122,7 @@ static OPENING: [u8; 18] = [0, 2, 1, 1, 1, 1, 1, 1, 1, 1, 1, 1, 1, 1, 1, 1, 1, 1
 
 /// The number of sessions that the order of a site has opened.
 fn opened(rt: &impl Abort, given: &GivenSite) -> u32 {
-    given.site().expect(rt, "a site").sessions().opened()
+    given.site().expect(rt, "a site").sessions().opened
 }
 
 #[test]

@@ -1,8 +1,5 @@
-use Rattle.site_model.proofs.OrderLemmas.{first_entries, next_entries, count_entries}
+use Rattle.site_model.proofs.OrderLemmas.{next_entries, count_entries}
 use Rattle.site_model.proofs.laws.orders_grow.Goals as goal
-
-pub returns-clause-first : goal.returns-clause-first
-returns-clause-first c s = first_entries s
 
 pub returns-clause-next : goal.returns-clause-next
 returns-clause-next c s order bytes = next_entries s order bytes

@@ -1,8 +1,5 @@
-use Rattle.site_model.proofs.OrderLemmas.{first_sessions, next_sessions, opened_few}
+use Rattle.site_model.proofs.OrderLemmas.{next_sessions, opened_few}
 use Rattle.site_model.proofs.laws.sessions_go_on.Goals as goal
-
-pub returns-clause-first : goal.returns-clause-first
-returns-clause-first c s = first_sessions s
 
 pub returns-clause-next : goal.returns-clause-next
 returns-clause-next c s order bytes = next_sessions s order bytes

@@ -11,68 +11,45 @@ use Rattle.site.specs.declared.standing.Standing.TheVariants.{Decided, Nothing}
 use Rattle.site.specs.Run.{CanRun}
 use Rattle.site.specs.Replica.{SiteReplica, setting_of}
 use Rattle.site.specs.Standing.{IsStanding, head_call}
-use Rattle.site.proofs.SiteLemmas.{log_long, at_session, at_decided, at_procedure, at_run, none_found, takes_by, can_run}
+use Rattle.site.proofs.SiteLemmas.{at_session, at_decided, at_procedure, at_run, none_found, takes_by, can_run}
 use Rattle.site.proofs.state.SiteReplica.call_standing.Goals as goal
 
 pub returns-in-Some-clause-is : goal.returns-in-Some-clause-is
 returns-in-Some-clause-is g c entries stands =
     let s = c.args.self.now in
-    let call = head_call c.args.head in
-    let log = items_of entries in
-    let long = log_long s entries stands in
-    let position : c.position.result ≡ s.replica.position = c.position.ensures ∙ ap (λ (x : SiteReplica). x.replica.position) c.self.view_is in
-    let test = c.if-head-position.false in
-    let le : call.snapshot ≤ length log = grind (arith, nat_tests) in
-    let out : session_cause (setting_of s).origin s.sessions call.request ≡ Some c.in-Some.cause = sym c.session_cause.ensures ∙ c.in-Some.is in
+    let out : session_cause s.origin s.sessions c.args.head.request ≡ Some c.in-Some.cause = sym c.session_cause.ensures ∙ c.in-Some.is in
     subst (λ (st : model.Standing). IsStanding {A = g.row.A.Denot} st (Nothing c.in-Some.cause))
-    (sym (at_session (setting_of s) s.sessions log call c.args.bytes.now le (Some c.in-Some.cause) out)) refl
+    (sym (at_session s entries (head_call c.args.head) c.args.bytes.now c.position.result stands (c.position.ensures ∙ ap (λ (x : SiteReplica). x.replica.position) c.self.view_is) c.if-head-position.false (Some c.in-Some.cause) out)) refl
 
 pub returns-then-is_decided-clause-is : goal.returns-then-is_decided-clause-is
 returns-then-is_decided-clause-is g c entries stands =
-    let s = c.args.self.now in
     let call = head_call c.args.head in
-    let log = items_of entries in
-    let long = log_long s entries stands in
-    let position : c.position.result ≡ s.replica.position = c.position.ensures ∙ ap (λ (x : SiteReplica). x.replica.position) c.self.view_is in
-    let test = c.if-head-position.false in
-    let le : call.snapshot ≤ length log = grind (arith, nat_tests) in
-    let inside : session_cause (setting_of s).origin s.sessions call.request ≡ None = sym c.session_cause.ensures ∙ c.in_default.is in
+    let inside = sym c.session_cause.ensures ∙ c.in_default.is in
     subst (λ (st : model.Standing). IsStanding {A = g.row.A.Denot} st (Decided c.args.head.snapshot c.args.head.request))
-    (sym (at_decided (setting_of s) s.sessions log call c.args.bytes.now le inside (sym (c.is_decided.ensures.decided entries call stands refl refl) ∙ c.if-is_decided.true))) (refl, refl)
+    (sym (at_decided c.args.self.now entries call c.args.bytes.now c.position.result stands (c.position.ensures ∙ ap (λ (x : SiteReplica). x.replica.position) c.self.view_is) c.if-head-position.false inside (sym (c.is_decided.ensures.decided entries call stands refl refl) ∙ c.if-is_decided.true))) (refl, refl)
 
 pub returns-in_default-program_at-clause-is : goal.returns-in_default-program_at-clause-is
 returns-in_default-program_at-clause-is g c entries stands =
     let s = c.args.self.now in
     let call = head_call c.args.head in
-    let log = items_of entries in
-    let long = log_long s entries stands in
-    let position : c.position.result ≡ s.replica.position = c.position.ensures ∙ ap (λ (x : SiteReplica). x.replica.position) c.self.view_is in
-    let test = c.if-head-position.false in
-    let le : call.snapshot ≤ length log = grind (arith, nat_tests) in
-    let inside : session_cause (setting_of s).origin s.sessions call.request ≡ None = sym c.session_cause.ensures ∙ c.in_default.is in
-    let none : None ≡ option_map (accepted_of s.catalogue.tables) (procedure_of (setting_of s).setting log call) = c.in_default-program_at.ensures entries stands in
+    let none : None ≡ option_map (accepted_of s.catalogue.tables) (procedure_of (setting_of s).setting (items_of entries) call) = c.in_default-program_at.ensures entries stands in
     subst (λ (st : model.Standing). IsStanding {A = g.row.A.Denot} st (Nothing cause.Procedure))
-    (sym (at_procedure (setting_of s) s.sessions log call c.args.bytes.now le inside (sym (c.is_decided.ensures.decided entries call stands refl refl) ∙ c.if-is_decided.false)
-    (none_found s.catalogue.tables (procedure_of (setting_of s).setting log call) call.args none))) refl
+    (sym (at_procedure s entries call c.args.bytes.now c.position.result stands (c.position.ensures ∙ ap (λ (x : SiteReplica). x.replica.position) c.self.view_is) c.if-head-position.false (sym c.session_cause.ensures ∙ c.in_default.is) (sym (c.is_decided.ensures.decided entries call stands refl refl) ∙ c.if-is_decided.false)
+    (none_found s.catalogue.tables (procedure_of (setting_of s).setting (items_of entries) call) call.args none))) refl
 
 pub returns-then-from-head-clause-is : goal.returns-then-from-head-clause-is
 returns-then-from-head-clause-is g c entries stands =
     let s = c.args.self.now in
     let call = head_call c.args.head in
-    let log = items_of entries in
-    let long = log_long s entries stands in
-    let position : c.position.result ≡ s.replica.position = c.position.ensures ∙ ap (λ (x : SiteReplica). x.replica.position) c.self.view_is in
-    let test = c.if-head-position.false in
-    let le : call.snapshot ≤ length log = grind (arith, nat_tests) in
-    let inside : session_cause (setting_of s).origin s.sessions call.request ≡ None = sym c.session_cause.ensures ∙ c.in_default.is in
-    let some : Some c.in-Some-program_at.accepted.now ≡ option_map (accepted_of s.catalogue.tables) (procedure_of (setting_of s).setting log call) = ap option_copied (sym c.in-Some-program_at.is) ∙ c.program_at.ensures entries stands in
+    let of = procedure_of (setting_of s).setting (items_of entries) call in
+    let some : Some c.in-Some-program_at.accepted.now ≡ option_map (accepted_of s.catalogue.tables) of = ap option_copied (sym c.in-Some-program_at.is) ∙ c.program_at.ensures entries stands in
     let count = c.args_len.ensures.length in
     let wide = c.from.ensures in
     let differs = c.if-from-head.true in
     let other : nat_eq c.in-Some-program_at.accepted.now.args_len (length call.args) ≡ false = grind (arith, nat_tests) in
     subst (λ (st : model.Standing). IsStanding {A = g.row.A.Denot} st (Nothing cause.Procedure))
-    (sym (at_procedure (setting_of s) s.sessions log call c.args.bytes.now le inside (sym (c.is_decided.ensures.decided entries call stands refl refl) ∙ c.if-is_decided.false)
-    (takes_by s.catalogue.tables c.in-Some-program_at.accepted.now (procedure_of (setting_of s).setting log call) call.args some ∙ other))) refl
+    (sym (at_procedure s entries call c.args.bytes.now c.position.result stands (c.position.ensures ∙ ap (λ (x : SiteReplica). x.replica.position) c.self.view_is) c.if-head-position.false (sym c.session_cause.ensures ∙ c.in_default.is) (sym (c.is_decided.ensures.decided entries call stands refl refl) ∙ c.if-is_decided.false)
+    (takes_by s.catalogue.tables c.in-Some-program_at.accepted.now of call.args some ∙ other))) refl
 
 pub complete-requires-clause-kept : goal.complete-requires-clause-kept
 complete-requires-clause-kept g c =
@@ -92,11 +69,6 @@ returns-clause-is g c entries stands =
     let w = (setting_of s).setting in
     let call = head_call c.args.head in
     let log = items_of entries in
-    let long = log_long s entries stands in
-    let position : c.position.result ≡ s.replica.position = c.position.ensures ∙ ap (λ (x : SiteReplica). x.replica.position) c.self.view_is in
-    let test = c.if-head-position.false in
-    let le : call.snapshot ≤ length log = grind (arith, nat_tests) in
-    let inside : session_cause (setting_of s).origin s.sessions call.request ≡ None = sym c.session_cause.ensures ∙ c.in_default.is in
     let some : Some c.in-Some-program_at.accepted.now ≡ option_map (accepted_of s.catalogue.tables) (procedure_of w log call) = ap option_copied (sym c.in-Some-program_at.is) ∙ c.program_at.ensures entries stands in
     let count = c.args_len.ensures.length in
     let wide = c.from.ensures in
@@ -104,7 +76,7 @@ returns-clause-is g c entries stands =
     let as_many : nat_eq c.in-Some-program_at.accepted.now.args_len (length call.args) ≡ true = grind (arith, nat_tests) in
     let can = subst (λ (x : SiteReplica). CanRun w entries x.replica c.in-Some-program_at.accepted.now call) (sym c.self.view_is) (can_run s entries c.in-Some-program_at.accepted.now call stands some) in
     subst (λ (st : model.Standing). IsStanding {A = g.row.A.Denot} st c.standing_of_run.result)
-    (sym (at_run (setting_of s) s.sessions log call c.args.bytes.now le inside (sym (c.is_decided.ensures.decided entries call stands refl refl) ∙ c.if-is_decided.false)
+    (sym (at_run s entries call c.args.bytes.now c.position.result stands (c.position.ensures ∙ ap (λ (x : SiteReplica). x.replica.position) c.self.view_is) c.if-head-position.false (sym c.session_cause.ensures ∙ c.in_default.is) (sym (c.is_decided.ensures.decided entries call stands refl refl) ∙ c.if-is_decided.false)
     (takes_by s.catalogue.tables c.in-Some-program_at.accepted.now (procedure_of w log call) call.args some ∙ as_many)))
     (c.standing_of_run.ensures.is w entries call (c.in_ok-completion.ensures w entries can))
 
