@@ -143,7 +143,7 @@ def asked():
     scripts = workspace.read("docs/FORMATS.md").decode().split("\n## Scripts\n")[1].split("\n## ")[0]
     script_words = re.findall(r"^\| `([a-z]+)\b", scripts, re.M)
     lines = workspace.read("docs/FORMATS.md").decode().split("\n## The lines of a site\n")[1].split("\n## ")[0]
-    site_words = [*re.findall(r"^\| `([a-z]+)\b", lines, re.M), "additions"]
+    site_words = [*re.findall(r"^\| `([a-z]+)\b", lines, re.M), "additions", "origin"]
     pieces = {"list": ("FILE",), "check": ("FILE", "ARGS", "T:W"), "replay": ("SCRIPT", *script_words),
               "run": ("SCRIPT", "--executors", "--log"), "site": ("SETTINGS", *site_words), "explain": ("NUMBER",)}
     explained = [Row(f"explain {it['Number']}", 0, tuple(filter(None, it.values()))) for it in rows_of_refusals()]

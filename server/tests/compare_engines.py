@@ -77,7 +77,7 @@ class Drawn:
         self.before = {pair for pair in requests if pair[1] > 0}
         lines = [f"row 1 {key} {words(self.random.randrange(100))}\n" for key in rows]
         if self.random.random() < 0.5:
-            lines.append(f"origin {self.random.choice([0, 5])} {self.random.choice([0, 1, 4]) + max(sessions, default=0)}\n")
+            lines.append(f"origin {self.random.choice([0, 5, 5, LAST_KEY - 9])} {self.random.choice([0, 1, 4]) + max(sessions, default=0)}\n")
         lines += [f"request {s} {q} {self.random.randrange(100)} 1 -\n" for s, q in requests]
         return "".join(lines)
 
@@ -97,11 +97,13 @@ class Drawn:
             self.settled.append((position, position, asked))
 
     def give(self, at):
-        """Gives a site the next string of the order, which is drawn where it has had all."""
-        if self.given[at] == len(self.order):
-            self.order.append(self.string())
-        string = self.order[self.given[at]]
+        """Gives a site the next string of the order, which is drawn where it has had all. A full order takes none."""
+        behind = self.order[self.given[at] :]
+        string = behind[0] if behind else self.string()
         self.ask(at, f"entry {string.hex() or '-'}")
+        if self.answers[at][-1] == "fault O1":
+            return
+        self.order += [] if behind else [string]
         self.given[at] += 1
         if self.answers[at][-1].split(" ")[2] in ("conflict", "stale"):
             _, *asked, snapshot = self.sites[at].head(string)

@@ -56,7 +56,8 @@ class Site:
         self.window, self.additions, self.widths, self.procedures = None, False, {}, {}
         self.rows, self.known = [{}], []  # by position: the rows; and the procedures
         self.writes, self.done = [], {}  # by position: what was written; by pair: who committed, and the reply
-        self.origin, self.sessions = None, {}  # of an order that opens sessions: N; by session: its greatest number done
+        self.before, self.origin = 0, None  # the byte strings before, and N, of an order that opens sessions
+        self.sessions = {}  # by session: its greatest number done
         for at, raw in enumerate(settings.split(b"\n"), 1):
             try:
                 self.set(words_of(raw, SETTINGS))
@@ -72,6 +73,8 @@ class Site:
                 raise Fault("L5")
             self.window = number(words[1], 4096)
         elif words[:1] == ["table"]:
+            if self.origin is not None or self.rows[0] or self.done or self.procedures:
+                raise Fault("L5")
             self.widths[number(words[1], 64)] = number(words[2], 128)
         elif words[:1] == ["proc"]:
             self.procedures[words[1]] = (number(words[2], 65535), number(words[3], 256), hex_bytes(words[4]))
@@ -88,8 +91,8 @@ class Site:
         elif words[:1] == ["origin"]:
             if self.origin is not None or self.done:
                 raise Fault("L5")
-            number(words[1], LAST_KEY)
-            self.origin = self.opened = number(words[2], LAST)
+            self.before, self.origin = number(words[1], LAST_KEY), number(words[2], LAST)
+            self.opened = self.origin
         elif words:
             self.additions = True
 
@@ -190,7 +193,7 @@ class Site:
     # ---- lines
 
     def entry(self, raw):
-        if len(self.writes) == LAST:
+        if len(self.writes) == LAST or self.before + len(self.writes) == LAST_KEY:
             return "fault O1"
         said, writes, pair, reply = self.item(raw)
         rows = dict(self.rows[-1])

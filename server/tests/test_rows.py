@@ -107,7 +107,10 @@ class Rows(ServerTest):
             (f"{asked} 1 2", "refused P15"),
             (f"{asked} 1 3", "refused P15"),
             (f"{asked} 2 1", "refused P15"),
-            (f"entry {opens}", "entry 2 session 2"),
+            (f"entry {call(1, 3, 5, 1, 0, 21)}", "entry 2 nothing E6 session 1 seq 3"),
+            (f"entry {call(3, 1, 5, 1, 3, 22)}", "entry 3 nothing E3 session 3 seq 1"),
+            (f"entry {opens}", "entry 4 session 2"),
+            (f"{asked} 2 1", f"submit {call(2, 1, 5, 1, 4, 22)}"),
         ]
         self.assert_answers(lines, settings)
         without = settings.replace(request, "request 2 0 0 0 -\n").replace("origin 3 1", "origin 4 2")
@@ -120,6 +123,7 @@ class Rows(ServerTest):
             "request 1 0 0 0 -\norigin 0 1\n": "line 3: L5",
             "origin 0 1\nrequest 2 0 0 0 -\n": "line 3: L11 Q2",
             "origin 0 2\nrequest 2 0 0 0 -\nrequest 1 0 0 0 -\n": "line 4: L11 Q1",
+            "origin 0 0\ntable 1 8\n": "line 3: L5",
             "origin 0\n": "line 2: L3",
             "origin 18446744073709551616 0\n": "line 2: L4",
             "origin 0 4294967296\n": "line 2: L4",
@@ -128,6 +132,12 @@ class Rows(ServerTest):
             process = fixtures.engine("window 4\n" + lines, self.folder)
             out, said = process.communicate()
             self.assertEqual((out, said, process.returncode), ("", f"{fault}\n", 1))
+
+    def test_positions_end(self):
+        for before, answers in ((2**64 - 1, ["fault O1"]), (2**64 - 2, ["entry 1 nothing E1", "fault O1"])):
+            settings = f"window 4\ntable 1 8\norigin {before} 0\n"
+            lines = [*(["entry -"] * len(answers)), "position"]
+            self.assertEqual(self.answers(*lines, settings=settings), [*answers, f"position {len(answers) - 1}"])
 
     def test_session_numbers_end(self):
         settings = f"window 4\ntable 1 8\norigin 0 4294967294\nproc add 1 16 {ADD}\n"

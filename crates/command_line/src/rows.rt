@@ -348,8 +348,8 @@ pub const OF_RUNS: [Explanation; 50] = [
     Explanation {
         number: "E1",
         cause: "it is no entry: it is empty, begins neither with 01 nor with 02, is a call that is shorter than its \
-            head or of whose session and sequence number one alone is 0, or an addition that is shorter or \
-            longer than its lengths say",
+            head or of whose session and sequence number one alone is 0, an addition that is shorter or longer \
+            than its lengths say, or would open a session beyond 4,294,967,295",
         cure: "nothing; bridges write such strings for their own ends",
         in_c: "",
     },
@@ -382,7 +382,7 @@ pub const OF_RUNS: [Explanation; 50] = [
     Explanation {
         number: "E6",
         cause: "the settings have an `origin`, and the call's session has done a request of a greater number",
-        cure: "nothing; who asked has an answer to a later request",
+        cure: "nothing, where callers have one request out at a time: who asked has an answer to a later one",
         in_c: "",
     },
     Explanation {
@@ -395,7 +395,8 @@ pub const OF_RUNS: [Explanation; 50] = [
     Explanation {
         number: "O1",
         cause: "the log or the order is full: a node's log has as many entries as it was started for (1,048,576 at \
-            most), or a site's order has 4,294,967,295 byte strings, which the site prints as `fault O1`",
+            most), or a site's order has 4,294,967,295 byte strings, or 2^64 - 1 with those that came before, \
+            which the site prints as `fault O1`",
         cure: "begin a new log, with a larger limit where there is one, or a new order, whose settings have the \
             rows in `row` lines",
         in_c: "",

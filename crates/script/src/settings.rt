@@ -108,7 +108,7 @@ impl<A: Allocator + Copy> Settings<A> {
         self.replicas
     }
 
-    /// The tables, and all that the database begins with.
+    /// The catalogue as far as it is set.
     pub fn catalogue(&self) -> &Catalogue<A>
         ensures { result.now ≡ self.now.catalogue }
     {

@@ -138,7 +138,7 @@ module _ (s : SiteReplica) (entries : List Entry) (call : Call) (bytes : List �
   abbrev by_request : Option NothingCause → model.Standing
   by_request o = request_standing w log call bytes o
 
-  module _ (reached : nat_lt position call.snapshot ≡ false) where
+  module _ (reached : call.snapshot ≤ position) where
     early : not (nat_le call.snapshot (length log)) ≡ false
     early = let long = log_long s entries stands in grind (arith, nat_tests)
 

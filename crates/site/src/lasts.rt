@@ -47,7 +47,7 @@ impl<A: Allocator + Copy> LastRequests<A> {
         }
     }
 
-    /// The last request of a session, where the session has done something.
+    /// The last request of a session, where there is one.
     pub fn last(&self, session: u32) -> Option<&DoneRequest<A>>
         ensures { option_copied result ≡ get self.now session }
     {

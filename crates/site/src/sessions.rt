@@ -4,7 +4,6 @@ ghost use Rattle.std.specs.Prelude.{◌≡◌, ◌+◌, ◌<◌, ◌^◌, IfOk, 
 ghost use Rattle.site_model.specs.Sessions.{is_known, is_opening, is_superseded, lasts_of, session_cause};
 ghost use Rattle.site_model.specs.Sessions.{session_opened, sessions_with};
 ghost use Rattle.std.specs.Option.{option_copied};
-ghost use Rattle.std.specs.FinMap.{get};
 
 use crate::lasts::{LastRequests, done_by, lasts_of};
 use catalogue::DoneRequest;
@@ -84,7 +83,7 @@ impl<A: Allocator + Copy> Sessions<A> {
             || session > origin.sessions && session - origin.sessions <= self.opened
     }
 
-    /// Returns why a call with this request can't be taken for its session's sake.
+    /// Returns why a call with this request can't be taken in an order of this origin, for its session's sake.
     pub(crate) fn cause(
         &self,
         origin: Option<Origin>,

@@ -115,7 +115,7 @@ impl<A: Allocator + Copy> SiteReplica<A> {
         &self.catalogue
     }
 
-    /// What came before the order, where the order opens sessions.
+    /// The origin of an order that opens sessions.
     pub fn origin(&self) -> Option<Origin>
         ensures { result ≡ self.now.origin }
     {

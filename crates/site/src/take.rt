@@ -97,8 +97,8 @@ pub(crate) fn take<A: Allocator + Copy>(
             take_entry(replica, &entry, EntryOutcome::Stale)
         }
         Standing::Opens(session) => {
-            let entry = entry_of_none(alloc, replica.position(), None);
-            take_entry(replica, &entry, EntryOutcome::Session(session))?;
+            let opening = entry_of_none(alloc, replica.position(), None);
+            take_entry(replica, &opening, EntryOutcome::Session(session))?;
             Ok(EntryOutcome::Session(session))
         }
         Standing::Nothing(cause) => {

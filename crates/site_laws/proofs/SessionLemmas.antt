@@ -1,5 +1,6 @@
--- What is known of sessions as an order goes on: it only grows.
+-- What is known of sessions as an order goes on: it only grows, by sessions that are opened and calls of known ones.
 use Rattle.std.proofs.Common.{◌≡◌, ℕ, ◌+◌, ◌≤◌, Bool, true, false, not, ◌&&◌, ◌||◌, nat_lt, nat_le, cond, is_some, List, [], ◌∷◌, ◌++◌, Option, Some, None, refl, sym, ap, subst, ◌∙◌, arith, append_assoc, append-nil}
+use Rattle.std.specs.Option.{option_map}
 use Rattle.std.specs.Ordering.{nat_cmp, eq_by_cmp}
 use Rattle.std.specs.Cmp.{nat_cmp_total}
 use Rattle.std.specs.FinMap.{get, insert, get-insert, nat_cmp-IsAntisymmetric}
@@ -8,15 +9,19 @@ use Rattle.std.proofs.lemmas.Bool.Decides.{nat_tests}
 use Rattle.std.proofs.lemmas.Map.Views.{tells_apart}
 use Rattle.log_model.specs.declared.request.RequestId.{RequestId}
 use Rattle.log_model.specs.Log.{DoneRequest}
-use Rattle.log_entry.specs.Head.{head_of}
+use Rattle.log_model.specs.Entries.{Entry}
+use Rattle.log_entry.specs.Head.{Head, AdditionHead, CallHead, head_of}
 use Rattle.site_model.specs.declared.cause.NothingCause.{NothingCause}
 use Rattle.site_model.specs.declared.cause.NothingCause.TheVariants.{UnknownSession, Superseded}
 use Rattle.site_model.specs.declared.origin.Origin.{Origin}
 use Rattle.site_model.specs.declared.outcome.EntryOutcome.{EntryOutcome}
+use Rattle.site_model.specs.declared.outcome.EntryOutcome.TheVariants as outcome
 use Rattle.site_model.specs.Sessions.{LastRequests, Sessions, done_by, is_known, is_superseded, session_cause, sessions_with, with_done, with_done_if}
 use Rattle.site_model.specs.Standing.{SiteSetting}
-use Rattle.site_model.specs.Order.{Order, next_outcome, sessions_after}
+use Rattle.site_model.specs.Order.{Order, next_outcome, order_entries, outcome_behind, request_in, sessions_after}
 use Rattle.site_model.proofs.OrderLemmas.{opens_one}
+use Rattle.site_laws.specs.Settled.{WasNumbered}
+use Rattle.site_laws.proofs.OutcomeLemmas.{committed_from}
 
 -- ---- last requests
 
@@ -101,6 +106,15 @@ more_known next s order (bytes ∷ more) =
 
 -- ---- what stands against a call for its session's sake
 
+-- nothing does only where its session is known
+known_session : (origin : Origin) (known : Sessions) (request : RequestId) → session_cause (Some origin) known (Some request) ≡ None → is_known origin known request.session ≡ true
+known_session origin known request none = by_test (is_known origin known request.session) refl
+  where
+    by_test : (b : Bool) → is_known origin known request.session ≡ b → is_known origin known request.session ≡ true
+    by_test true e = e
+    by_test false e =
+        absurd (let bad : Some UnknownSession ≡ None = sym (ap (λ (b : Bool). cond (not b) (Some UnknownSession) (cond (is_superseded (get known.lasts request.session) request) (Some Superseded) None)) e) ∙ none in cc)
+
 module _ (origin : Origin) (before now : Sessions) (more : KnowsMore before now) where
   -- a session that is known stays so
   stays_known : (session : ℕ) → is_known origin before session ≡ true → is_known origin now session ≡ true
@@ -125,13 +139,8 @@ module _ (origin : Origin) (before now : Sessions) (more : KnowsMore before now)
   in_session_or_superseded : (request : RequestId) (why : NothingCause) → session_cause (Some origin) before (Some request) ≡ None → session_cause (Some origin) now (Some request) ≡ Some why → why ≡ Superseded
   in_session_or_superseded request why none some =
       by_test (is_superseded (get now.lasts request.session) request)
-      (sym (ap (λ (b : Bool). cond (not b) (Some UnknownSession) (cond (is_superseded (get now.lasts request.session) request) (Some Superseded) None)) (stays_known request.session (was_known (is_known origin before request.session) refl))) ∙ some)
+      (sym (ap (λ (b : Bool). cond (not b) (Some UnknownSession) (cond (is_superseded (get now.lasts request.session) request) (Some Superseded) None)) (stays_known request.session (known_session origin before request none))) ∙ some)
     where
-      was_known : (b : Bool) → is_known origin before request.session ≡ b → is_known origin before request.session ≡ true
-      was_known true e = e
-      was_known false e =
-          absurd (let bad : Some UnknownSession ≡ None = sym (ap (λ (b : Bool). cond (not b) (Some UnknownSession) (cond (is_superseded (get before.lasts request.session) request) (Some Superseded) None)) e) ∙ none in cc)
-
       by_test : (b : Bool) → cond b (Some Superseded) None ≡ Some why → why ≡ Superseded
       by_test true e = let same : Superseded ≡ why = cc in sym same
       by_test false e = absurd cc
@@ -147,7 +156,7 @@ module _ (origin : Origin) (before now : Sessions) (more : KnowsMore before now)
           let above : nat_lt request.sequence later.request.sequence ≡ true = grind (arith, nat_tests) in
           ap (λ (o : Option DoneRequest). is_superseded o request) at ∙ above
 
-  pub out_of_session_stays : (request : RequestId) (why : NothingCause) → is_known origin before request.session ≡ true → session_cause (Some origin) before (Some request) ≡ Some why
+  out_of_session_stays : (request : RequestId) (why : NothingCause) → is_known origin before request.session ≡ true → session_cause (Some origin) before (Some request) ≡ Some why
       → session_cause (Some origin) now (Some request) ≡ Some Superseded
   out_of_session_stays request why known out =
       let newer = stays_superseded request (by_test (is_superseded (get before.lasts request.session) request) refl
@@ -164,3 +173,99 @@ pub at_most_superseded : (origin : Option Origin) (before now : Sessions) (reque
 at_most_superseded None before now request why more none some = absurd cc
 at_most_superseded (Some origin) before now None why more none some = absurd cc
 at_most_superseded (Some origin) before now (Some request) why more none some = in_session_or_superseded origin before now more request why none some
+
+-- ---- a session that was numbered and isn't known stays unknown
+
+-- it was numbered before the order, and no call of it committed
+record IsPast (origin : Origin) (known : Sessions) (session : ℕ) : Type 0 where
+  early : session ≤ origin.sessions
+  none : get known.lasts session ≡ None
+
+is_past : (origin : Origin) (known : Sessions) (session : ℕ) → session ≤ origin.sessions + known.opened → is_known origin known session ≡ false → IsPast origin known session
+is_past origin known session numbered = by_last (get known.lasts session) refl
+  where
+    below : nat_le session (origin.sessions + known.opened) ≡ true
+    below = grind (arith, nat_tests)
+
+    by_above : (b : Bool) → nat_lt origin.sessions session ≡ b → (b && nat_le session (origin.sessions + known.opened)) ≡ false → session ≤ origin.sessions
+    by_above false above e = grind (arith, nat_tests)
+    by_above true above e = absurd (let bad : true ≡ false = sym below ∙ e in cc)
+
+    by_last : (o : Option DoneRequest) → get known.lasts session ≡ o → (is_some o || (nat_lt origin.sessions session && nat_le session (origin.sessions + known.opened))) ≡ false → IsPast origin known session
+    by_last (Some last) is e = absurd cc
+    by_last None is e = record { early = by_above (nat_lt origin.sessions session) refl e; none = is }
+
+past_unknown : (origin : Origin) (known : Sessions) (session : ℕ) → IsPast origin known session → is_known origin known session ≡ false
+past_unknown origin known session past =
+    let early = past.early in
+    let above : nat_lt origin.sessions session ≡ false = grind (arith, nat_tests) in
+    λ i. is_some (past.none i) || (above i && nat_le session (origin.sessions + known.opened))
+
+-- only what commits has done its request
+commits_by : (head : Option Head) (o : EntryOutcome) (done : DoneRequest) → done_by head o ≡ Some done → (reply : ℕ) × (o ≡ outcome.Committed reply) × (request_in head ≡ Some done.request)
+commits_by None o done e = absurd cc
+commits_by (Some (AdditionHead p)) o done e = absurd cc
+commits_by (Some (CallHead call told)) (outcome.Committed reply) done e = (reply, refl, by_request call.request e)
+  where
+    by_request : (r : Option RequestId) → option_map (λ request. record { request = request; reply = reply; procedure = call.procedure; args = call.args }) r ≡ Some done → r ≡ Some done.request
+    by_request None e = absurd cc
+    by_request (Some request) e = ap (option_map (λ (d : DoneRequest). d.request)) e
+commits_by (Some (CallHead call told)) (outcome.Conflict position) done e = absurd cc
+commits_by (Some (CallHead call told)) outcome.Stale done e = absurd cc
+commits_by (Some (CallHead call told)) (outcome.Repeated position reply) done e = absurd cc
+commits_by (Some (CallHead call told)) (outcome.Added number) done e = absurd cc
+commits_by (Some (CallHead call told)) (outcome.Taken identifier) done e = absurd cc
+commits_by (Some (CallHead call told)) (outcome.Session session) done e = absurd cc
+commits_by (Some (CallHead call told)) (outcome.Nothing cause) done e = absurd cc
+
+-- and nothing was against it
+done_in_session : (s : SiteSetting) (known : Sessions) (entries : List Entry) (bytes : List ℕ) (done : DoneRequest) → done_by (head_of bytes) (outcome_behind s known entries bytes) ≡ Some done
+    → session_cause s.origin known (Some done.request) ≡ None
+done_in_session s known entries bytes done e =
+    let (reply, commits, carries) = commits_by (head_of bytes) (outcome_behind s known entries bytes) done e in
+    let (call, told, is) = committed_from s known entries bytes reply commits in
+    sym (ap (session_cause s.origin known) (sym (ap request_in is.head) ∙ carries)) ∙ is.in_session
+
+module _ (s : SiteSetting) (origin : Origin) (has : s.origin ≡ Some origin) (session : ℕ) where
+  past_next : (known : Sessions) (entries : List Entry) (bytes : List ℕ) → IsPast origin known session → IsPast origin (sessions_with known bytes (outcome_behind s known entries bytes)) session
+  past_next known entries bytes past = record {
+    early = past.early;
+    none = by_done (done_by (head_of bytes) (outcome_behind s known entries bytes)) refl;
+  }
+    where
+      inserted : (done : DoneRequest) → session_cause (Some origin) known (Some done.request) ≡ None → get (insert known.lasts done.request.session done) session ≡ None
+      inserted done within = get-insert nat_cmp_total known.lasts done.request.session done session ∙ by_session (eq_by_cmp nat_cmp session done.request.session) refl
+        where
+          by_session : (b : Bool) → eq_by_cmp nat_cmp session done.request.session ≡ b → cond b (Some done) (get known.lasts session) ≡ None
+          by_session false e = past.none
+          by_session true e =
+              let same : session ≡ done.request.session = tells_apart {R = nat_cmp} nat_cmp-IsAntisymmetric session done.request.session e in
+              absurd (let bad : true ≡ false = sym (known_session origin known done.request within) ∙ ap (is_known origin known) (sym same) ∙ past_unknown origin known session past in cc)
+
+      by_done : (o : Option DoneRequest) → done_by (head_of bytes) (outcome_behind s known entries bytes) ≡ o → get (with_done_if known.lasts o) session ≡ None
+      by_done None e = past.none
+      by_done (Some done) e = elim (is_superseded (get known.lasts done.request.session) done.request) as (λ b. get (cond b known.lasts (insert known.lasts done.request.session done)) session ≡ None) [
+        | true ↦ past.none
+        | false ↦ inserted done (sym (ap (λ (o : Option Origin). session_cause o known (Some done.request)) has) ∙ done_in_session s known entries bytes done e)
+      ]
+
+  past_later : SessionsGoOn → (order more : Order) → IsPast origin (sessions_after s order) session → IsPast origin (sessions_after s (order ++ more)) session
+  past_later next order [] past = subst (λ (o : Order). IsPast origin (sessions_after s o) session) (sym (append-nil order)) past
+  past_later next order (bytes ∷ more) past =
+      subst (λ (o : Order). IsPast origin (sessions_after s o) session) (append_assoc order (bytes ∷ []) more)
+      (past_later next (order ++ bytes ∷ []) more
+      (subst (λ (known : Sessions). IsPast origin known session) (sym (next s order bytes)) (past_next (sessions_after s order) (order_entries s order) bytes past)))
+
+-- what is against a call of a session that was numbered stays so
+pub stays_against : SessionsGoOn → (s : SiteSetting) (order more : Order) (origin : Origin) (request : RequestId) (why : NothingCause) → s.origin ≡ Some origin → WasNumbered origin (sessions_after s order) request
+    → session_cause (Some origin) (sessions_after s order) (Some request) ≡ Some why → (later : NothingCause) × (session_cause (Some origin) (sessions_after s (order ++ more)) (Some request) ≡ Some later)
+stays_against next s order more origin request why has numbered against = by_known (is_known origin (sessions_after s order) request.session) refl
+  where
+    now : Sessions
+    now = sessions_after s (order ++ more)
+
+    by_known : (b : Bool) → is_known origin (sessions_after s order) request.session ≡ b → (later : NothingCause) × (session_cause (Some origin) now (Some request) ≡ Some later)
+    by_known true e = (Superseded, out_of_session_stays origin (sessions_after s order) now (more_known next s order more) request why e against)
+    by_known false e =
+        let past = past_later s origin has request.session next order more (is_past origin (sessions_after s order) request.session numbered e) in
+        (UnknownSession, ap (λ (b : Bool). cond (not b) (Some UnknownSession) (cond (is_superseded (get now.lasts request.session) request) (Some Superseded) None)) (past_unknown origin now request.session past))

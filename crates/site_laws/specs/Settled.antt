@@ -1,6 +1,9 @@
 -- A call that was answered without being ordered, and byte strings that ask the same.
-use Rattle.std.specs.Prelude.{◌≡◌, ℕ, ◌≤◌, List, length, Some}
+use Rattle.std.specs.Prelude.{◌≡◌, ℕ, ◌+◌, ◌≤◌, List, length, Some}
+use Rattle.log_model.specs.declared.request.RequestId.{RequestId}
 use Rattle.log_model.specs.Log.{Call, StoredProcedure, by_name, procedures_after}
+use Rattle.site_model.specs.declared.origin.Origin.{Origin}
+use Rattle.site_model.specs.Sessions.{Sessions}
 use Rattle.site_model.specs.Standing.{SiteSetting}
 use Rattle.site_model.specs.Order.{Order, order_log}
 use Rattle.site_model.specs.Answer.{Asked}
@@ -26,3 +29,7 @@ pub record AsksAgain (first second : Call) : Type 0 where
   pub procedure : second.procedure ≡ first.procedure
   pub args : second.args ≡ first.args
   pub snapshot : second.snapshot ≤ first.snapshot
+
+-- its session has a number that was given before the order or in it
+abbrev pub WasNumbered : Origin → Sessions → RequestId → Type 0
+WasNumbered origin known request = request.session ≤ origin.sessions + known.opened

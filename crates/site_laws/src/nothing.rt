@@ -17,7 +17,8 @@ use log_model::{each_call_has_a_verdict, verdicts_in_words_of_the_log};
 use site_model::{orders_grow, sessions_go_on};
 
 /// A byte string that is nothing, or opens a session, leaves the rows, the procedures, and where each request was done,
-/// with its reply. It leaves the last request of each session. No byte string behind it is in conflict with it.
+/// with its reply. Such a byte string leaves the last request of each session, and no byte string behind it is in
+/// conflict with it.
 pub fn what_is_nothing_changes_nothing()
     ensures rows { (s : SiteSetting) (order : Order) (bytes : List ℕ)
         → ChangesNothing (next_outcome s order bytes)

@@ -33,9 +33,9 @@ use program_checks::programs_pass_where_they_are_accepted;
 use site_model::{orders_grow, sessions_go_on};
 
 /// The bytes that a call was answered behind an order, to be ordered, aren't nothing wherever that order goes on, but
-/// for one cause. They are superseded exactly where the call's session has done a request of a greater number since.
-/// An order without an origin supersedes none. The premises are that the procedure has a number of its own and the
-/// call's numbers and lengths fit their fields (`IsAskedOf`).
+/// for one cause. The bytes are superseded exactly where the call's session has done a request of a greater number
+/// since. An order without an origin supersedes none. The premises are that the procedure has a number of its own and
+/// the call's numbers and lengths fit their fields (`IsAskedOf`).
 pub fn own_calls_are_not_nothing()
     ensures others { (s : SiteSetting) (order more : Order) (asked : Asked) (bytes : List ℕ) (cause : NothingCause)
         → IsAskedOf s order asked → call_answer s order asked ≡ Submitted bytes → cause ≢ Superseded

@@ -1,6 +1,6 @@
 //! The commits that answers rule out.
 
-ghost use Rattle.std.specs.Prelude.{◌≡◌, ◌≢◌, ◌<◌, ℕ, ◌∷◌, ◌++◌, List, All, Some, true};
+ghost use Rattle.std.specs.Prelude.{◌≡◌, ◌≢◌, ◌<◌, ℕ, ◌∷◌, ◌++◌, List, All, Some};
 ghost use Rattle.log_model.specs.declared.request.RequestId.{RequestId};
 ghost use Rattle.log_model.specs.Log.{Call};
 ghost use Rattle.log_entry.specs.Head.{CallHead, head_of};
@@ -9,10 +9,9 @@ ghost use Rattle.site_model.specs.declared.origin.Origin.{Origin};
 ghost use Rattle.site_model.specs.declared.outcome.EntryOutcome.TheVariants.{Committed, Conflict, Stale};
 ghost use Rattle.site_model.specs.Answer.{Asked, call_answer};
 ghost use Rattle.site_model.specs.Fit.{AreFitEntries};
-ghost use Rattle.site_model.specs.Sessions.{is_known};
 ghost use Rattle.site_model.specs.Standing.{SiteSetting};
 ghost use Rattle.site_model.specs.Order.{Order, next_outcome, order_entries, sessions_after};
-ghost use Rattle.site_laws.specs.Settled.{AsksAgain, AsksTheSame, IsSettled};
+ghost use Rattle.site_laws.specs.Settled.{AsksAgain, AsksTheSame, IsSettled, WasNumbered};
 
 use crate::laws::{beginnings_have_the_same_entries, orders_have_logs};
 use log_model::{
@@ -68,15 +67,15 @@ pub fn what_was_refused_commits_no_more()
     what_stands_is_of_the_log();
 }
 
-/// A request that was answered as out of its session, where that session is known, is superseded for good. No byte
-/// string of a call with that request commits where the order goes on. The number of a session's last request never
-/// falls.
+/// A request that was answered as out of its session is so for good, where the session's number was given before that.
+/// No byte string of a call with that request commits where the order goes on. The number of a session's last request
+/// never falls. A session of such a number that isn't known stays unknown, since only calls of known sessions commit.
 pub fn what_is_out_of_session_commits_no_more()
     ensures { (s : SiteSetting) (order more : Order) (bytes : List ℕ) (asked : Asked) (origin : Origin)
         (request : RequestId) (call : Call) (told reply : ℕ)
         → s.origin ≡ Some origin → asked.request ≡ Some request
         → call_answer s order asked ≡ OutOfSession
-        → is_known origin (sessions_after s order) request.session ≡ true
+        → WasNumbered origin (sessions_after s order) request
         → head_of bytes ≡ Some (CallHead call told) → call.request ≡ Some request
         → next_outcome s (order ++ more) bytes ≢ Committed reply }
 {

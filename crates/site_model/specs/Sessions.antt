@@ -1,6 +1,6 @@
 -- The sessions of an order, and what each has done last: of its calls that committed, the one of the greatest number (this
 -- product's own rules).
-use Rattle.std.specs.Prelude.{ℕ, suc, ◌+◌, ◌^◌, ◌==◌, nat_le, nat_lt, Bool, false, not, is_some, ◌&&◌, ◌||◌, if◌then◌else◌, List, [], ◌∷◌, length, Option, Some, None}
+use Rattle.std.specs.Prelude.{ℕ, suc, ◌+◌, ◌^◌, ◌==◌, nat_le, nat_lt, Bool, false, not, is_some, ◌&&◌, ◌||◌, if◌then◌else◌, List, ◌∷◌, length, Option, Some, None}
 use Rattle.std.specs.List.{fold}
 use Rattle.std.specs.Option.{option_map}
 use Rattle.std.specs.Ordering.{nat_cmp}
@@ -74,7 +74,7 @@ session_opened None opened bytes = None
 session_opened (Some origin) opened bytes =
     if is_opening bytes && nat_lt (origin.sessions + opened + 1) (2 ^ 32) then Some (origin.sessions + opened + 1) else None
 
--- it has done something, in the order or before, or was told of there, or the order opened it
+-- it has a last request, of a call that committed or told of before the order, or the order opened it
 abbrev pub is_known : Origin → Sessions → ℕ → Bool
 is_known origin known session =
     is_some (get known.lasts session) || (nat_lt origin.sessions session && nat_le session (origin.sessions + known.opened))

@@ -8,8 +8,8 @@ use program_checks::ProgramFault;
 pub enum CallAnswer<E> {
     /// The call can't run.
     Refused(CallRefusal),
-    /// The session of the call's request isn't known, or has done a request of a greater number. Where the order opens
-    /// no sessions, no call is answered so.
+    /// The session of the call's request isn't known, or has done a request of a greater number. No call is answered so
+    /// where the order opens no sessions.
     OutOfSession,
     /// The request was done at this position, by the committed call there or at 0 before the order, with this reply.
     Repeated { position: u32, reply: u64 },

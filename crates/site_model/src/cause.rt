@@ -14,8 +14,8 @@ pub enum NothingCause {
     Procedure,
     /// The session of the call's request has done a request of a greater number.
     Superseded,
-    /// The session of the call's request isn't known: no request of that session was done before the order, and the
-    /// order didn't open it.
+    /// The session of the call's request isn't known: nothing was told of that session before the order, and the order
+    /// didn't open it.
     UnknownSession,
     /// The call cancels, or writes nothing, or the bytes tell another run than the call's.
     Untrue,

@@ -23,8 +23,8 @@ pub fn orders_grow()
     ensures count { (s : SiteSetting) (order : Order) → length (order_entries s order) ≡ length order }
 {}
 
-/// Before an order each session has done last what its request before says, and no session is opened. Each byte string of
-/// the order changes that by its outcome, and opens one session at most.
+/// Sessions have done last what their requests before an order say, and none is opened. Each byte string of the order
+/// changes that by its outcome, and opens one session at most.
 #[tactic(auto, unfolding(crate::specs::Order::followed))]
 pub fn sessions_go_on()
     ensures first { (s : SiteSetting) → sessions_after s []

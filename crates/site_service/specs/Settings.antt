@@ -6,7 +6,7 @@ use Rattle.std.specs.Str.{bytes_eq}
 use Rattle.script.specs.declared.fault.LineFault.{LineFault}
 use Rattle.script.specs.declared.fault.LineFault.TheVariants as fault
 use Rattle.script.specs.declared.statements.Statement.TheVariants as statement
-use Rattle.script.specs.declared.statements.Setting.TheVariants.{Replicas, Request, Origin}
+use Rattle.script.specs.declared.statements.Setting.TheVariants.{Replicas, Table, Request, Origin}
 use Rattle.script.specs.Text.{lines_of, max_line}
 use Rattle.script.specs.Line.{made_of, fields_say, says}
 use Rattle.script.specs.Script as script
@@ -79,10 +79,11 @@ abbrev pub with_script_setting : SettingsSoFar → ScriptSetting → Result Sett
 with_script_setting s setting =
     then_with (setting_after s.settings setting) (λ settings. Ok (record s { settings = settings }))
 
--- a site has one replica
+-- a site has one replica; tables stand before the origin
 abbrev pub with_setting : SettingsSoFar → ScriptSetting → Result SettingsSoFar FaultCause
 with_setting s (Replicas replicas) = Err Place
 with_setting s (Origin strings sessions) = with_origin s (record { strings = strings; sessions = sessions })
+with_setting s (Table table width) = if is_some s.origin then Err Place else with_script_setting s (Table table width)
 with_setting s (Request r) = if is_beyond s.origin r.session then Err Session else with_script_setting s (Request r)
 with_setting s setting = with_script_setting s setting
 

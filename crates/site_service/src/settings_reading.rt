@@ -37,7 +37,7 @@ impl<A: Allocator + Copy> Reading<A> {
     }
 
     /// Takes what came before the order, which stands once and before all requests.
-    fn begin_behind(&mut self, origin: Origin) -> Result<(), FaultCause>
+    fn set_origin(&mut self, origin: Origin) -> Result<(), FaultCause>
         ensures ok { OnOk result (with_origin (so_far self.old) origin ≡ Ok (so_far self.new)) }
         ensures fault { IfErr result (λ cause. with_origin (so_far self.old) origin ≡ Err cause) }
     {
@@ -67,8 +67,9 @@ impl<A: Allocator + Copy> Reading<A> {
     {
         match setting {
             Setting::Replicas(_) => Err(FaultCause::Place),
+            Setting::Table { .. } if self.origin.is_some() => Err(FaultCause::Place),
             Setting::Origin { strings, sessions } => {
-                self.begin_behind(Origin { strings, sessions })
+                self.set_origin(Origin { strings, sessions })
             }
             Setting::Request(request) if self.is_beyond(request.session) => {
                 Err(FaultCause::Session)

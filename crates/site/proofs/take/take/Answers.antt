@@ -22,7 +22,7 @@ take_entry-requires-in-Decided-clause-follows g c =
 pub take_entry-requires-in-Opens-clause-follows : goal.take_entry-requires-in-Opens-clause-follows
 take_entry-requires-in-Opens-clause-follows g c =
     let (entries, stands) = c.requires.stands in
-    (entries, next_entry (setting_of c.args.replica.now) c.args.replica.now.sessions entries c.args.bytes.now, opening_follows c.what_stands_is_of_the_log.ensures.placed c.what_stands_is_of_the_log.ensures.carried c.what_stands_is_of_the_log.ensures.fits c.args.replica.now entries c.args.bytes.now c.are_bytes.ensures stands c.entry_of_none-entry-in-Opens.result c.in-Opens.session c.position.result (subst (IsStanding (standing (setting_of c.args.replica.now) c.args.replica.now.sessions (items_of entries) c.args.bytes.now)) c.in-Opens.is (c.in_ok-entry.ensures.is entries stands)) c.position.ensures.position c.entry_of_none-entry-in-Opens.ensures)
+    (entries, next_entry (setting_of c.args.replica.now) c.args.replica.now.sessions entries c.args.bytes.now, opening_follows c.what_stands_is_of_the_log.ensures.placed c.what_stands_is_of_the_log.ensures.carried c.what_stands_is_of_the_log.ensures.fits c.args.replica.now entries c.args.bytes.now c.are_bytes.ensures stands c.entry_of_none-opening.result c.in-Opens.session c.position.result (subst (IsStanding (standing (setting_of c.args.replica.now) c.args.replica.now.sessions (items_of entries) c.args.bytes.now)) c.in-Opens.is (c.in_ok-entry.ensures.is entries stands)) c.position.ensures.position c.entry_of_none-opening.ensures)
 
 pub take_entry-requires-in-Nothing-clause-follows : goal.take_entry-requires-in-Nothing-clause-follows
 take_entry-requires-in-Nothing-clause-follows g c =
@@ -59,4 +59,4 @@ returns-in_ok-take_entry-in-Nothing-clause-stands g c entries stands =
 
 pub returns-in_ok-take_entry-in-Opens-clause-stands : goal.returns-in_ok-take_entry-in-Opens-clause-stands
 returns-in_ok-take_entry-in-Opens-clause-stands g c entries stands =
-    c.in_ok-take_entry-in-Opens.ensures.stands entries (next_entry (setting_of c.args.replica.now) c.args.replica.now.sessions entries c.args.bytes.now) (opening_follows c.what_stands_is_of_the_log.ensures.placed c.what_stands_is_of_the_log.ensures.carried c.what_stands_is_of_the_log.ensures.fits c.args.replica.now entries c.args.bytes.now c.are_bytes.ensures stands c.entry_of_none-entry-in-Opens.result c.in-Opens.session c.position.result (subst (IsStanding (standing (setting_of c.args.replica.now) c.args.replica.now.sessions (items_of entries) c.args.bytes.now)) c.in-Opens.is (c.in_ok-entry.ensures.is entries stands)) c.position.ensures.position c.entry_of_none-entry-in-Opens.ensures)
+    c.in_ok-take_entry-in-Opens.ensures.stands entries (next_entry (setting_of c.args.replica.now) c.args.replica.now.sessions entries c.args.bytes.now) (opening_follows c.what_stands_is_of_the_log.ensures.placed c.what_stands_is_of_the_log.ensures.carried c.what_stands_is_of_the_log.ensures.fits c.args.replica.now entries c.args.bytes.now c.are_bytes.ensures stands c.entry_of_none-opening.result c.in-Opens.session c.position.result (subst (IsStanding (standing (setting_of c.args.replica.now) c.args.replica.now.sessions (items_of entries) c.args.bytes.now)) c.in-Opens.is (c.in_ok-entry.ensures.is entries stands)) c.position.ensures.position c.entry_of_none-opening.ensures)

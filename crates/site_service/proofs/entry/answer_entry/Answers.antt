@@ -1,4 +1,4 @@
-use Rattle.std.proofs.Common.{◌≡◌, false, true, refl, sym, ◌∙◌}
+use Rattle.std.proofs.Common.{◌≡◌, false, true, sym, ◌∙◌}
 use Rattle.site.specs.Replica.{StandsForOrder, setting_of}
 use Rattle.site_service.specs.LineAnswers.{is_full}
 use Rattle.site_service.proofs.AnswerLemmas.{entry_answered, full_answered, stands_with, stands_without}
