@@ -36,7 +36,7 @@ answered_behind s order (line ∷ lines) others text more (here, rest, answer, s
   answered_behind s (order_behind s order (line_says line)) lines others rest more then behind,
 )
 
-pub order_after_more : (s : SiteSetting) (order : Order) (lines more : List (List ℕ)) → order_after s order (lines ++ more) ≡ order_after (order_after s order lines) more
+pub order_after_more : (s : SiteSetting) (order : Order) (lines more : List (List ℕ)) → order_after s order (lines ++ more) ≡ order_after s (order_after s order lines) more
 order_after_more s order lines more = fold-append (λ so_far l. order_behind s so_far (line_says l)) order lines more
 
 -- ---- whatever is asked there is an answer

@@ -1,6 +1,6 @@
 //! The answer to a byte string of the order.
 
-ghost use Rattle.std.specs.Prelude.{◌≡◌, IfOk, OnErr};
+ghost use Rattle.std.specs.Prelude.{◌≡◌, ◌+◌, ◌<◌, ◌^◌, false, IfOk, OnErr};
 ghost use Rattle.log_entry.specs.Head.{head_of};
 ghost use Rattle.site_model.specs.Standing.{SiteSetting};
 ghost use Rattle.site_model.specs.Order.{Order, request_in};
@@ -24,7 +24,8 @@ pub const MAX_STRINGS: u64 = u64::MAX;
 
 /// Tells whether there is no position behind so many byte strings, in an order of this origin.
 fn is_full(origin: Option<Origin>, count: u32) -> bool
-    ensures { (s : SiteSetting) → s.origin ≡ origin → result ≡ is_full s count }
+    ensures full { (s : SiteSetting) → s.origin ≡ origin → result ≡ is_full s count }
+    ensures room { result ≡ false → count + 1 < 2 ^ 32 }
 {
     let before = origin.map_or(0, |origin| origin.strings);
     count == MAX_POSITION || MAX_STRINGS - before == u64::from(count)
