@@ -5,7 +5,9 @@ use Rattle.site_service.proofs.AnswerLemmas.{entry_answered, full_answered, stan
 use Rattle.site_service.proofs.entry.answer_entry.Goals as goal
 
 pub take-requires : goal.take-requires
-take-requires g c = subst (λ (n : ℕ). n + 1 < 2 ^ 32) c.position-position.ensures.position (c.is_full.ensures.room c.if-is_full.false)
+take-requires g c = record {
+  room = subst (λ (n : ℕ). n + 1 < 2 ^ 32) c.position-position.ensures.position (c.is_full.ensures.room c.if-is_full.false);
+}
 
 pub overflow_add-position : goal.overflow_add-position
 overflow_add-position g c = let room = c.is_full.ensures.room c.if-is_full.false in omega arith
