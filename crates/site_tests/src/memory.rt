@@ -27,7 +27,14 @@ static CALL: [u8; 84] = [
 
 /// A site of the sample procedures with a window of 4 that was given nothing, and none where memory is wanting.
 fn site_of<A: Allocator + Copy>(alloc: A) -> Option<Site<A>> {
-    Site::new(alloc, 4, catalogue_of(alloc, &TABLES, &PROCEDURES)?, true).ok()
+    Site::new(
+        alloc,
+        4,
+        catalogue_of(alloc, &TABLES, &PROCEDURES)?,
+        true,
+        None,
+    )
+    .ok()
 }
 
 /// The same with a row and a request that was done before.
@@ -36,7 +43,7 @@ fn site_behind<A: Allocator + Copy>(alloc: A) -> Option<Site<A>> {
     catalogue.put_row(1, 5, &[0; 8]).ok()?;
     let request = ASKED.request?;
     catalogue.put_request(request, 10, 1, ASKED.args).ok()?;
-    Site::new(alloc, 4, catalogue, true).ok()
+    Site::new(alloc, 4, catalogue, true, None).ok()
 }
 
 /// Row and request take memory in the catalogue, and once more at the site.
