@@ -111,6 +111,7 @@ reply_alike (AdditionEntry p) (CallEntry d) never = absurd never
 abbrev pub site_after : {A : Type 0} → SiteReplica → Replica → LogEntry A → Verdict → SiteReplica
 site_after s new entry v = record {
   catalogue = s.catalogue;
+  table_list = s.table_list;
   takes_additions = s.takes_additions;
   origin = s.origin;
   replica = new;

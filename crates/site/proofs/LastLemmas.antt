@@ -10,7 +10,7 @@ use Rattle.std.specs.Ordering.{is_eq, is_lt, match_ordering, nat_cmp}
 use Rattle.std.specs.Cmp.{nat_cmp_total}
 use Rattle.std.specs.Map.{lookup}
 use Rattle.std.specs.BTreeMap.{insert_entry}
-use Rattle.std.specs.FinMap.{empty, empty_of_len, len-entries, entries-from_sorted, entries-insert, find, from_sorted, get, get-from_sorted, insert, is_sorted, put, same_entries_map}
+use Rattle.std.specs.FinMap.{empty, empty_of_len, entries, len-entries, entries-from_sorted, entries-insert, find, from_sorted, get, get-from_sorted, insert, is_sorted, put, same_entries_map}
 use Rattle.std.specs.FinMap.Entries.{below_all, by_order}
 use Rattle.schema.proofs.SortedLemmas.{both}
 use Rattle.log_model.specs.Log.{DoneRequest}
@@ -53,6 +53,9 @@ module _ {X : Type 0} where
       ∙ put_is k v es
       ∙ ap (put nat_cmp k v) (sym (entries-from_sorted nat_cmp es (sorted_of es rising)))
       ∙ sym (entries-insert nat_cmp_total (from_sorted es) k v))
+
+  pub listed : (es : List (ℕ × X)) → IsRising es → map (λ e. e.1) es ≡ map (λ e. e.1) (entries (from_sorted {R = nat_cmp} es))
+  listed es rising = ap (map (λ e. e.1)) (sym (entries-from_sorted nat_cmp es (sorted_of es rising)))
 
   pub none_is : (es : List (ℕ × X)) → es ≡ [] → from_sorted {R = nat_cmp} es ≡ empty
   none_is [] none = empty_of_len (from_sorted []) (len-entries (from_sorted []) ∙ ap (λ (es : List (ℕ × X)). length es) (entries-from_sorted nat_cmp [] tt))

@@ -4,3 +4,4 @@ pub mod Replica
 pub mod Standing
 pub mod Taking
 pub mod Answered
+pub mod Settings

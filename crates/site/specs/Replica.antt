@@ -15,10 +15,12 @@ use Rattle.site_model.specs.Order.{Order, order_entries, reply_in, sessions_afte
 use Rattle.site_model.specs.Sessions.{LastRequests, Sessions}
 use Rattle.site_model.specs.declared.origin.Origin.{Origin}
 
--- the tables and what the database begins with, whether procedures may be added, what came before the order, what its replica
--- keeps, the reply at each position, the positions of the procedures that were added, by number, and what is known of sessions
+-- the tables and what the database begins with, the tables in the order in which they were told, whether procedures may be added,
+-- what came before the order, what its replica keeps, the reply at each position, the positions of the procedures that were
+-- added, by number, and what is known of sessions
 pub record SiteReplica : Type 0 where
   pub catalogue : SystemCatalogue
+  pub table_list : List (ℕ × ℕ)
   pub takes_additions : Bool
   pub origin : Option Origin
   pub replica : Replica
@@ -29,6 +31,7 @@ pub record SiteReplica : Type 0 where
 abbrev pub setting_of : SiteReplica → SiteSetting
 setting_of s = record {
   setting = system_setting s.catalogue s.replica.window;
+  table_list = s.table_list;
   takes_additions = s.takes_additions;
   origin = s.origin;
 }
@@ -74,22 +77,26 @@ pub record StandsForOrder (s : SiteReplica) (order : Order) : Type 0 where
 abbrev origin_code : Coded Origin
 origin_code = code_by (ℕ × ℕ) (coded× coded_ℕ coded_ℕ) (λ o. (o.strings, o.sessions)) (λ c. record { strings = c.0; sessions = c.1 }) (λ _. refl)
 
+abbrev pairs_code : Coded (List (ℕ × ℕ))
+pairs_code = coded_list (coded× coded_ℕ coded_ℕ)
+
 abbrev pub sessions_code : Coded Sessions
 sessions_code = code_by (ℕ × LastRequests) (coded× coded_ℕ (finite.code coded_ℕ done_code))
     (λ s. (s.opened, s.lasts)) (λ c. record { opened = c.0; lasts = c.1 }) (λ _. refl)
 
 abbrev pub site_code : Coded SiteReplica
-site_code = code_by (SystemCatalogue × (Bool × (Option Origin × (Replica × (List ℕ × (List (ℕ × ℕ) × Sessions))))))
-    (coded× catalogue_code (coded× coded_bool (coded× (coded_option origin_code) (coded× replica_code
-    (coded× (coded_list coded_ℕ) (coded× (coded_list (coded× coded_ℕ coded_ℕ)) sessions_code))))))
-    (λ s. (s.catalogue, (s.takes_additions, (s.origin, (s.replica, (s.replies, (s.additions, s.sessions)))))))
+site_code = code_by (SystemCatalogue × (List (ℕ × ℕ) × (Bool × (Option Origin × (Replica × (List ℕ × (List (ℕ × ℕ) × Sessions)))))))
+    (coded× catalogue_code (coded× pairs_code (coded× coded_bool (coded× (coded_option origin_code) (coded× replica_code
+    (coded× (coded_list coded_ℕ) (coded× pairs_code sessions_code)))))))
+    (λ s. (s.catalogue, (s.table_list, (s.takes_additions, (s.origin, (s.replica, (s.replies, (s.additions, s.sessions))))))))
     (λ c. record {
       catalogue = c.0;
-      takes_additions = c.1.0;
-      origin = c.1.1.0;
-      replica = c.1.1.1.0;
-      replies = c.1.1.1.1.0;
-      additions = c.1.1.1.1.1.0;
-      sessions = c.1.1.1.1.1.1;
+      table_list = c.1.0;
+      takes_additions = c.1.1.0;
+      origin = c.1.1.1.0;
+      replica = c.1.1.1.1.0;
+      replies = c.1.1.1.1.1.0;
+      additions = c.1.1.1.1.1.1.0;
+      sessions = c.1.1.1.1.1.1.1;
     })
     (λ _. refl)

@@ -1,17 +1,20 @@
 //! What each session has done last.
 
-ghost use Rattle.std.specs.Prelude.{◌≡◌, OnOk, IfOk};
+ghost use Rattle.std.specs.Prelude.{◌≡◌, ◌<◌, ◌^◌, length, OnOk, IfOk};
 ghost use Rattle.std.specs.Option.{option_copied};
 ghost use Rattle.std.specs.FinMap.{empty, get};
 ghost use Rattle.log_entry.specs.Head.{head_of};
-ghost use Rattle.site_model.specs.Sessions.{done_by, lasts_of, with_done};
+ghost use Rattle.site_model.specs.Next.{requests_of};
+ghost use Rattle.site_model.specs.Sessions.{done_by, lasts_of, nothing_done, with_done};
 
 use crate::sessions::is_superseded;
 use catalogue::DoneRequest;
 use log_entry::{EntryHead, head_of};
+use log_model::RequestId;
 use site_model::EntryOutcome;
 use std::alloc::{AllocError, Allocator, Global};
 use std::collections::BTreeMap;
+use std::collections::btree_map::Values;
 use std::marker::Model;
 
 /// The request of the greatest number that each session has done, by session. Contracts see a finite map.
@@ -54,6 +57,15 @@ impl<A: Allocator + Copy> LastRequests<A> {
         self.requests.get(&session)
     }
 
+    /// The last request of each session, by session.
+    pub fn requests(&self) -> Values<'_, u32, DoneRequest<A>>
+        ensures requests { result ≡ requests_of self.now }
+        // The requests can be counted.
+        ensures few { length result < 2 ^ 63 }
+    {
+        self.requests.values()
+    }
+
     /// Takes one more request that was done.
     pub(crate) fn note(&mut self, done: DoneRequest<A>) -> Result<(), AllocError>
         ensures noted { OnOk result (self.new ≡ with_done self.old done) }
@@ -82,14 +94,28 @@ pub(crate) fn lasts_of<A: Allocator + Copy, P: Allocator>(
     Ok(lasts)
 }
 
-/// What the bytes of a call with a request have done, where the call committed.
+/// The last request of a session that has done nothing. Takes no memory.
+fn nothing_done<A: Allocator>(alloc: A, session: u32) -> DoneRequest<A>
+    ensures { result ≡ nothing_done session }
+{
+    let request = RequestId {
+        session,
+        sequence: 0,
+    };
+    DoneRequest::new(request, 0, 0, Vec::new(alloc))
+}
+
+/// What a byte string has done of a session. It opened the session, or is a call with a request that committed.
 pub(crate) fn done_by<A: Allocator + Copy>(
     alloc: A,
     bytes: &[u8],
     outcome: EntryOutcome,
 ) -> Result<Option<DoneRequest<A>>, AllocError>
-    ensures { IfOk result (λ done. done ≡ done_by (head_of bytes.now) outcome) }
+    ensures { IfOk result (λ done. done ≡ done_by outcome (head_of bytes.now)) }
 {
+    if let EntryOutcome::Session(session) = outcome {
+        return Ok(Some(nothing_done(alloc, session)));
+    }
     let EntryOutcome::Committed(reply) = outcome else {
         return Ok(None);
     };

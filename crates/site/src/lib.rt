@@ -4,6 +4,8 @@
 pub use crate::site::Site;
 pub use asked::Asked;
 pub use lasts::LastRequests;
+pub use sessions::Sessions;
+pub use settings::SiteSettings;
 
 mod addition;
 mod additions;
@@ -14,6 +16,7 @@ mod replies;
 mod run;
 mod same_bytes;
 mod sessions;
+mod settings;
 mod site;
 mod standing;
 mod state;

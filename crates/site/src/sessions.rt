@@ -1,7 +1,7 @@
 //! What a site knows of sessions.
 
 ghost use Rattle.std.specs.Prelude.{◌≡◌, ◌+◌, ◌<◌, ◌^◌, IfOk, OnOk};
-ghost use Rattle.site_model.specs.Sessions.{is_known, is_opening, is_superseded, lasts_of, session_cause};
+ghost use Rattle.site_model.specs.Sessions.{is_opening, is_superseded, lasts_of, session_cause};
 ghost use Rattle.site_model.specs.Sessions.{session_opened, sessions_with};
 ghost use Rattle.std.specs.Option.{option_copied};
 
@@ -75,14 +75,6 @@ impl<A: Allocator + Copy> Sessions<A> {
         origin.sessions.checked_add(self.opened)?.checked_add(1)
     }
 
-    /// Tells whether a session is known in an order of this origin.
-    fn is_known(&self, origin: Origin, session: u32) -> bool
-        ensures { result ≡ is_known origin self.now session }
-    {
-        self.lasts.last(session).is_some()
-            || session > origin.sessions && session - origin.sessions <= self.opened
-    }
-
     /// Returns why a call with this request can't be taken in an order of this origin, for its session's sake.
     pub(crate) fn cause(
         &self,
@@ -91,11 +83,13 @@ impl<A: Allocator + Copy> Sessions<A> {
     ) -> Option<NothingCause>
         ensures { result ≡ session_cause origin self.now request }
     {
-        let (origin, request) = (origin?, request?);
-        if !self.is_known(origin, request.session) {
+        let (Some(_), Some(request)) = (origin, request) else {
+            return None;
+        };
+        let Some(last) = self.lasts.last(request.session) else {
             return Some(NothingCause::UnknownSession);
-        }
-        if is_superseded(self.lasts.last(request.session), request) {
+        };
+        if is_superseded(Some(last), request) {
             return Some(NothingCause::Superseded);
         }
         None
@@ -113,7 +107,6 @@ impl<A: Allocator + Copy> Sessions<A> {
     {
         if let EntryOutcome::Session(_) = outcome {
             self.opened += 1;
-            return Ok(());
         }
         match done_by(alloc, bytes, outcome)? {
             Some(done) => self.lasts.note(done),

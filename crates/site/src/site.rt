@@ -2,7 +2,8 @@
 
 ghost use Rattle.std.specs.Prelude.{◌≡◌, ◌+◌, ◌<◌, ◌≤◌, ◌^◌, ◌++◌, [], ◌∷◌, ℕ, List, false, length, IfOk, OnErr, IsTrue};
 ghost use Rattle.std.specs.FinMap as map;
-ghost use Rattle.log_model.specs.Log.{rows_after};
+ghost use Rattle.log_model.specs.Log.{procedures_after, rows_after};
+ghost use Rattle.catalogue.specs.Stored.{stored_procedures};
 ghost use Rattle.site_model.specs.Order.{Order, next_outcome, order_log, sessions_after};
 ghost use Rattle.schema.specs.declared.limits.TheConstants.{MAX_ARGUMENTS};
 ghost use Rattle.site_model.specs.Answer.{addition_answer, call_answer, takes_memory};
@@ -11,15 +12,17 @@ ghost use Rattle.site_model.specs.Own.{IsAskedOf};
 ghost use Rattle.site.specs.Replica.{StandsForOrder, setting_of};
 ghost use Rattle.log_entry.specs.Named.{named_of};
 ghost use Rattle.site.specs.Answered.{added, answered, asked_of};
-ghost use Rattle.catalogue.specs.Catalogue.{system_setting};
+ghost use Rattle.site.specs.Settings.{site_setting};
 
 use crate::addition::add;
 use crate::asked::{Asked, call};
 use crate::sessions::Sessions;
+use crate::settings::SiteSettings;
 use crate::state::SiteReplica;
 use crate::take::take;
-use catalogue::Catalogue;
+use catalogue::StoredProcedures;
 use log_entry::{Entry, NamedProgram};
+use log_model::entries_suffice;
 use replica::At;
 use row_sets::Row;
 use site_model::{
@@ -50,26 +53,16 @@ impl<A: Allocator + Copy> Model for Site<A> {
 }
 
 impl<A: Allocator + Copy> Site<A> {
-    /// Makes a site that was given nothing, with the tables, rows, requests and procedures of a catalogue. A call is
-    /// stale where more byte strings than the window came since its snapshot. An order with an origin opens sessions.
-    pub fn new(
-        alloc: A,
-        window: u32,
-        catalogue: Catalogue<A>,
-        takes_additions: bool,
-        origin: Option<Origin>,
-    ) -> Result<Site<A>, AllocError>
+    /// Makes a site that was given nothing. A call is stale where more byte strings than the window came since its
+    /// snapshot. An order with an origin opens sessions.
+    pub fn new(alloc: A, settings: SiteSettings<A>) -> Result<Site<A>, AllocError>
         ensures stands { IfOk result (λ s. StandsForOrder s []) }
-        ensures setting { IfOk result (λ s. setting_of s ≡ record {
-          setting = system_setting catalogue window;
-          takes_additions = takes_additions;
-          origin = origin;
-        }) }
+        ensures setting { IfOk result (λ s. setting_of s ≡ site_setting settings) }
     {
         // Laws:
         orders_grow();
         sessions_go_on();
-        let replica = SiteReplica::new(alloc, window, catalogue, takes_additions, origin)?;
+        let replica = SiteReplica::new(alloc, settings)?;
         Ok(Site { replica })
     }
 
@@ -116,6 +109,38 @@ impl<A: Allocator + Copy> Site<A> {
             → result.now ≡ sessions_after (setting_of self.now) order }
     {
         self.replica.sessions()
+    }
+
+    /// The number of byte strings behind which a call's snapshot is too old.
+    pub fn window(&self) -> u32
+        ensures { result ≡ (setting_of self.now).setting.window }
+    {
+        self.replica.replica().window()
+    }
+
+    /// The tables with their widths, in the order in which they were told.
+    pub fn table_list(&self) -> &[(u8, u16)]
+        ensures { result.now ≡ (setting_of self.now).table_list }
+    {
+        self.replica.table_list()
+    }
+
+    /// Tells whether procedures may be added.
+    pub fn takes_additions(&self) -> bool
+        ensures { result ≡ (setting_of self.now).takes_additions }
+    {
+        self.replica.takes_additions()
+    }
+
+    /// The procedures at the last position, in order of entry.
+    pub fn procedures(&self) -> &StoredProcedures<A>
+        ensures { (order : Order) → StandsForOrder self.now order → stored_procedures result.now
+            ≡ procedures_after (setting_of self.now).setting (order_log (setting_of self.now) order) (length order) }
+    {
+        // Laws:
+        entries_suffice();
+        orders_grow();
+        self.replica.replica().procedures()
     }
 
     /// The rows at the last position, in the order of tables and keys.

@@ -7,10 +7,11 @@ ghost use Rattle.log_model.specs.Entries.{Entry as ModelEntry, items_of};
 ghost use Rattle.site_model.specs.Order.{reply_to};
 ghost use Rattle.site_model.specs.Sessions.{lasts_of, session_cause, sessions_with};
 ghost use Rattle.site.specs.Replica.{StandsForLog, reply_of, setting_of};
-ghost use Rattle.catalogue.specs.Catalogue.{system_setting};
+ghost use Rattle.site.specs.Settings.{site_setting};
 
 use crate::replies::reply_to;
 use crate::sessions::Sessions;
+use crate::settings::SiteSettings;
 use catalogue::{Catalogue, catalogues_are_safe};
 use log_model::{RequestId, entries_suffice};
 use replica::Replica;
@@ -24,6 +25,7 @@ use std::marker::Model;
 pub struct SiteReplica<A: Allocator + Copy = Global> {
     pub(crate) alloc: A,
     pub(crate) catalogue: Catalogue<A>,
+    pub(crate) table_list: Vec<(u8, u16), A>,
     pub(crate) takes_additions: bool,
     pub(crate) origin: Option<Origin>,
     pub(crate) replica: Replica<A>,
@@ -43,6 +45,7 @@ impl<A: Allocator + Copy> Model for SiteReplica<A> {
 
     ghost view = { λ s. record {
       catalogue = s.catalogue;
+      table_list = s.table_list.items;
       takes_additions = s.takes_additions;
       origin = s.origin;
       replica = s.replica;
@@ -53,29 +56,28 @@ impl<A: Allocator + Copy> Model for SiteReplica<A> {
 }
 
 impl<A: Allocator + Copy> SiteReplica<A> {
-    /// Makes a replica that was given nothing, with the tables, rows, requests and procedures of a catalogue. A call is
-    /// stale where more byte strings than the window came since its snapshot.
-    pub fn new(
-        alloc: A,
-        window: u32,
-        catalogue: Catalogue<A>,
-        takes_additions: bool,
-        origin: Option<Origin>,
-    ) -> Result<SiteReplica<A>, AllocError>
+    /// Makes a replica that was given nothing. A call is stale where more byte strings than the window came since its
+    /// snapshot.
+    pub fn new(alloc: A, settings: SiteSettings<A>) -> Result<SiteReplica<A>, AllocError>
         ensures stands { IfOk result (λ s. StandsForLog s []) }
-        ensures sessions { IfOk result (λ s. s.sessions ≡ record { opened = 0; lasts = lasts_of catalogue.requests }) }
-        ensures setting { IfOk result (λ s. setting_of s ≡ record {
-          setting = system_setting catalogue window;
-          takes_additions = takes_additions;
-          origin = origin;
-        }) }
+        ensures sessions { IfOk result (λ s. s.sessions
+            ≡ record { opened = 0; lasts = lasts_of settings.catalogue.requests }) }
+        ensures setting { IfOk result (λ s. setting_of s ≡ site_setting settings) }
     {
+        let SiteSettings {
+            window,
+            catalogue,
+            table_list,
+            takes_additions,
+            origin,
+        } = settings;
         catalogues_are_safe(&catalogue);
         let replica = Replica::new(alloc, window, &catalogue)?;
         let sessions = Sessions::before(alloc, catalogue.requests().requests())?;
         Ok(SiteReplica {
             alloc,
             catalogue,
+            table_list,
             takes_additions,
             origin,
             replica,
@@ -113,6 +115,13 @@ impl<A: Allocator + Copy> SiteReplica<A> {
         ensures { result.now ≡ self.now.catalogue }
     {
         &self.catalogue
+    }
+
+    /// The tables with their widths, in the order in which they were told.
+    pub fn table_list(&self) -> &[(u8, u16)]
+        ensures { result.now ≡ self.now.table_list }
+    {
+        &self.table_list
     }
 
     /// The origin of an order that opens sessions.

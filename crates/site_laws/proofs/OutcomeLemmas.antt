@@ -13,7 +13,7 @@ use Rattle.log_entry.specs.Head.{NamedProcedure, AdditionHead, CallHead, head_of
 use Rattle.site_model.specs.declared.cause.NothingCause.TheVariants as cause
 use Rattle.site_model.specs.declared.outcome.EntryOutcome.{EntryOutcome}
 use Rattle.site_model.specs.declared.outcome.EntryOutcome.TheVariants as outcome
-use Rattle.site_model.specs.Sessions.{Sessions, session_cause}
+use Rattle.site_model.specs.Sessions.{Sessions, session_cause, session_opened}
 use Rattle.site_model.specs.Standing.{SiteSetting, Standing, StandsAs, IsDecided, OpensSession, IsNothing, addition_standing, checked_standing, executed, standing}
 use Rattle.site_model.specs.Order.{replies_to, committed_outcome, entry_of_none, entry_standing, next_entry, outcome_behind, outcome_by, outcome_of, with_bytes}
 use Rattle.site_model.specs.Answer.{stored_as}
@@ -118,6 +118,30 @@ module _ (s : SiteSetting) (known : Sessions) (entries : List Entry) (bytes : Li
 
       Commits : Standing → Type 0
       Commits st = outcome_of (replies_to s all bytes) st v ≡ outcome.Committed reply → (call : Call) × (told : ℕ) × CommitsAs s known entries bytes call told
+
+  -- a session that is opened
+  pub opened_from : (session : ℕ) → outcome_behind s known entries bytes ≡ outcome.Session session → session_opened s.origin known.opened bytes ≡ Some session
+  opened_from session opens = standing_cases Opens s known log bytes (λ c e. absurd cc) (λ given is e. is ∙ (let same : given ≡ session = cc in ap Some same))
+      (λ call told head. call_cases Opens s known log call bytes (λ c e. absurd cc) (λ _ _ _ e. absurd (never_opened outcome.Stale v (λ x. cc) e)) (λ _ e. absurd (never_opened (outcome.Committed (executed s.setting log call).reply) v (λ x. cc) e)))
+      (λ n head. addition_cases Opens s n (λ c e. absurd cc) (λ q _ e. absurd (never_opened (outcome.Added q.number) v (λ x. cc) e)))
+      opens
+    where
+      log : Log
+      log = items_of entries
+
+      v : Option Verdict
+      v = verdict_of s.setting (items_of all) (length entries + 1)
+
+      Opens : Standing → Type 0
+      Opens st = outcome_of (replies_to s all bytes) st v ≡ outcome.Session session → session_opened s.origin known.opened bytes ≡ Some session
+
+      never_opened : (c : EntryOutcome) (v : Option Verdict) → (c ≡ outcome.Session session → ⊥) → outcome_by (replies_to s all bytes) c v ≡ outcome.Session session → ⊥
+      never_opened c None isnt e = isnt e
+      never_opened c (Some verdict.Commit) isnt e = isnt e
+      never_opened c (Some (verdict.Conflict n)) isnt e = cc
+      never_opened c (Some verdict.Stale) isnt e = cc
+      never_opened c (Some (verdict.Repeated n)) isnt e = cc
+      never_opened c (Some (verdict.Taken i)) isnt e = cc
 
   -- a procedure that is added
   pub added_from : HaveVerdicts → (number : ℕ) → outcome_behind s known entries bytes ≡ outcome.Added number

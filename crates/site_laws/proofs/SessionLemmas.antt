@@ -1,10 +1,9 @@
 -- What is known of sessions as an order goes on: it only grows, by sessions that are opened and calls of known ones.
-use Rattle.std.proofs.Common.{◌≡◌, ℕ, ◌+◌, ◌≤◌, Bool, true, false, not, ◌&&◌, ◌||◌, nat_lt, nat_le, cond, is_some, List, [], ◌∷◌, ◌++◌, Option, Some, None, refl, sym, ap, subst, ◌∙◌, arith, append_assoc, append-nil}
+use Rattle.std.proofs.Common.{◌≡◌, ℕ, ◌+◌, ◌^◌, ◌≤◌, Bool, true, false, not, ◌&&◌, nat_lt, cond, is_some, List, [], ◌∷◌, ◌++◌, Option, Some, None, refl, sym, ap, subst, ◌∙◌, arith, append_assoc, append-nil}
 use Rattle.std.specs.Option.{option_map}
 use Rattle.std.specs.Ordering.{nat_cmp, eq_by_cmp}
 use Rattle.std.specs.Cmp.{nat_cmp_total}
 use Rattle.std.specs.FinMap.{get, insert, get-insert, nat_cmp-IsAntisymmetric}
-use Rattle.std.proofs.lemmas.Bool.{and_parts}
 use Rattle.std.proofs.lemmas.Bool.Decides.{nat_tests}
 use Rattle.std.proofs.lemmas.Map.Views.{tells_apart}
 use Rattle.log_model.specs.declared.request.RequestId.{RequestId}
@@ -16,12 +15,12 @@ use Rattle.site_model.specs.declared.cause.NothingCause.TheVariants.{UnknownSess
 use Rattle.site_model.specs.declared.origin.Origin.{Origin}
 use Rattle.site_model.specs.declared.outcome.EntryOutcome.{EntryOutcome}
 use Rattle.site_model.specs.declared.outcome.EntryOutcome.TheVariants as outcome
-use Rattle.site_model.specs.Sessions.{LastRequests, Sessions, done_by, is_known, is_superseded, session_cause, sessions_with, with_done, with_done_if}
+use Rattle.site_model.specs.Sessions.{LastRequests, Sessions, done_by, is_known, is_opening, is_superseded, nothing_done, session_cause, session_opened, sessions_with, with_done, with_done_if}
 use Rattle.site_model.specs.Standing.{SiteSetting}
 use Rattle.site_model.specs.Order.{Order, next_outcome, order_entries, outcome_behind, request_in, sessions_after}
 use Rattle.site_model.proofs.OrderLemmas.{opens_one}
 use Rattle.site_laws.specs.Settled.{WasNumbered}
-use Rattle.site_laws.proofs.OutcomeLemmas.{committed_from}
+use Rattle.site_laws.proofs.OutcomeLemmas.{committed_from, opened_from}
 
 -- ---- last requests
 
@@ -68,27 +67,17 @@ reach_if lasts (Some done) = done_reaches lasts done
 
 -- ---- all that is known
 
-pub record KnowsMore (before now : Sessions) : Type 0 where
-  pub opened : before.opened ≤ now.opened
-  pub lasts : Reach before.lasts now.lasts
+abbrev pub KnowsMore : Sessions → Sessions → Type 0
+KnowsMore before now = Reach before.lasts now.lasts
 
 one_more : (known : Sessions) (bytes : List ℕ) (o : EntryOutcome) → KnowsMore known (sessions_with known bytes o)
-one_more known bytes o = record {
-  opened = (opens_one known.opened o).0;
-  lasts = reach_if known.lasts (done_by (head_of bytes) o);
-}
+one_more known bytes o = reach_if known.lasts (done_by o (head_of bytes))
 
 and_then : (a b c : Sessions) → KnowsMore a b → KnowsMore b c → KnowsMore a c
-and_then a b c first second =
-    let opened = first.opened in
-    let still = second.opened in
-    record {
-      opened = omega arith;
-      lasts = λ session last is.
-          let (later, at, reaches) = first.lasts session last is in
-          let (latest, there, still) = second.lasts session later at in
-          (latest, there, omega (arith, reaches, still));
-    }
+and_then a b c first second session last is =
+    let (later, at, reaches) = first session last is in
+    let (latest, there, still) = second session later at in
+    (latest, there, omega (arith, reaches, still))
 
 -- what a lower law says
 abbrev pub SessionsGoOn : Type 0
@@ -97,7 +86,7 @@ SessionsGoOn = (s : SiteSetting) (order : Order) (bytes : List ℕ) → sessions
 pub more_known : SessionsGoOn → (s : SiteSetting) (order more : Order) → KnowsMore (sessions_after s order) (sessions_after s (order ++ more))
 more_known next s order [] =
     subst (λ (o : Order). KnowsMore (sessions_after s order) (sessions_after s o)) (sym (append-nil order))
-    (record { opened = omega arith; lasts = same_reach (sessions_after s order).lasts })
+    (same_reach (sessions_after s order).lasts)
 more_known next s order (bytes ∷ more) =
     subst (λ (o : Order). KnowsMore (sessions_after s order) (sessions_after s o)) (append_assoc order (bytes ∷ []) more)
     (and_then (sessions_after s order) (sessions_after s (order ++ bytes ∷ [])) (sessions_after s ((order ++ bytes ∷ []) ++ more))
@@ -107,33 +96,22 @@ more_known next s order (bytes ∷ more) =
 -- ---- what stands against a call for its session's sake
 
 -- nothing does only where its session is known
-known_session : (origin : Origin) (known : Sessions) (request : RequestId) → session_cause (Some origin) known (Some request) ≡ None → is_known origin known request.session ≡ true
-known_session origin known request none = by_test (is_known origin known request.session) refl
+known_session : (origin : Origin) (known : Sessions) (request : RequestId) → session_cause (Some origin) known (Some request) ≡ None → is_known known request.session ≡ true
+known_session origin known request none = by_test (is_known known request.session) refl
   where
-    by_test : (b : Bool) → is_known origin known request.session ≡ b → is_known origin known request.session ≡ true
+    by_test : (b : Bool) → is_known known request.session ≡ b → is_known known request.session ≡ true
     by_test true e = e
     by_test false e =
         absurd (let bad : Some UnknownSession ≡ None = sym (ap (λ (b : Bool). cond (not b) (Some UnknownSession) (cond (is_superseded (get known.lasts request.session) request) (Some Superseded) None)) e) ∙ none in cc)
 
 module _ (origin : Origin) (before now : Sessions) (more : KnowsMore before now) where
   -- a session that is known stays so
-  stays_known : (session : ℕ) → is_known origin before session ≡ true → is_known origin now session ≡ true
+  stays_known : (session : ℕ) → is_known before session ≡ true → is_known now session ≡ true
   stays_known session = by_last (get before.lasts session) refl
     where
-      told_now : Bool
-      told_now = nat_lt origin.sessions session && nat_le session (origin.sessions + now.opened)
-
-      or_true : (a b : Bool) → b ≡ true → (a || b) ≡ true
-      or_true true b e = refl
-      or_true false b e = e
-
-      by_last : (o : Option DoneRequest) → get before.lasts session ≡ o → (is_some o || (nat_lt origin.sessions session && nat_le session (origin.sessions + before.opened))) ≡ true → is_known origin now session ≡ true
-      by_last (Some last) is e = let (later, at, reaches) = more.lasts session last is in ap (λ (o : Option DoneRequest). is_some o || told_now) at
-      by_last None is e =
-          let (above, below) = and_parts (nat_lt origin.sessions session) (nat_le session (origin.sessions + before.opened)) e in
-          let opened = more.opened in
-          let still : nat_le session (origin.sessions + now.opened) ≡ true = grind (arith, nat_tests) in
-          or_true (is_some (get now.lasts session)) told_now (λ i. above i && still i)
+      by_last : (o : Option DoneRequest) → get before.lasts session ≡ o → is_some o ≡ true → is_known now session ≡ true
+      by_last (Some last) is e = let (later, at, reaches) = more session last is in ap (λ (o : Option DoneRequest). is_some o) at
+      by_last None is e = absurd cc
 
   -- a call that nothing stood against is at most superseded
   in_session_or_superseded : (request : RequestId) (why : NothingCause) → session_cause (Some origin) before (Some request) ≡ None → session_cause (Some origin) now (Some request) ≡ Some why → why ≡ Superseded
@@ -152,11 +130,11 @@ module _ (origin : Origin) (before now : Sessions) (more : KnowsMore before now)
       by_last : (o : Option DoneRequest) → get before.lasts request.session ≡ o → is_superseded o request ≡ true → is_superseded (get now.lasts request.session) request ≡ true
       by_last None is e = absurd cc
       by_last (Some last) is e =
-          let (later, at, reaches) = more.lasts request.session last is in
+          let (later, at, reaches) = more request.session last is in
           let above : nat_lt request.sequence later.request.sequence ≡ true = grind (arith, nat_tests) in
           ap (λ (o : Option DoneRequest). is_superseded o request) at ∙ above
 
-  out_of_session_stays : (request : RequestId) (why : NothingCause) → is_known origin before request.session ≡ true → session_cause (Some origin) before (Some request) ≡ Some why
+  out_of_session_stays : (request : RequestId) (why : NothingCause) → is_known before request.session ≡ true → session_cause (Some origin) before (Some request) ≡ Some why
       → session_cause (Some origin) now (Some request) ≡ Some Superseded
   out_of_session_stays request why known out =
       let newer = stays_superseded request (by_test (is_superseded (get before.lasts request.session) request) refl
@@ -176,78 +154,100 @@ at_most_superseded (Some origin) before now (Some request) why more none some = 
 
 -- ---- a session that was numbered and isn't known stays unknown
 
--- it was numbered before the order, and no call of it committed
+-- it was numbered, and has no last request
 record IsPast (origin : Origin) (known : Sessions) (session : ℕ) : Type 0 where
-  early : session ≤ origin.sessions
+  early : session ≤ origin.sessions + known.opened
   none : get known.lasts session ≡ None
 
-is_past : (origin : Origin) (known : Sessions) (session : ℕ) → session ≤ origin.sessions + known.opened → is_known origin known session ≡ false → IsPast origin known session
-is_past origin known session numbered = by_last (get known.lasts session) refl
+has_none : (known : Sessions) (session : ℕ) → is_known known session ≡ false → get known.lasts session ≡ None
+has_none known session = by_last (get known.lasts session) refl
   where
-    below : nat_le session (origin.sessions + known.opened) ≡ true
-    below = grind (arith, nat_tests)
-
-    by_above : (b : Bool) → nat_lt origin.sessions session ≡ b → (b && nat_le session (origin.sessions + known.opened)) ≡ false → session ≤ origin.sessions
-    by_above false above e = grind (arith, nat_tests)
-    by_above true above e = absurd (let bad : true ≡ false = sym below ∙ e in cc)
-
-    by_last : (o : Option DoneRequest) → get known.lasts session ≡ o → (is_some o || (nat_lt origin.sessions session && nat_le session (origin.sessions + known.opened))) ≡ false → IsPast origin known session
+    by_last : (o : Option DoneRequest) → get known.lasts session ≡ o → is_some o ≡ false → get known.lasts session ≡ None
     by_last (Some last) is e = absurd cc
-    by_last None is e = record { early = by_above (nat_lt origin.sessions session) refl e; none = is }
+    by_last None is e = is
 
-past_unknown : (origin : Origin) (known : Sessions) (session : ℕ) → IsPast origin known session → is_known origin known session ≡ false
-past_unknown origin known session past =
-    let early = past.early in
-    let above : nat_lt origin.sessions session ≡ false = grind (arith, nat_tests) in
-    λ i. is_some (past.none i) || (above i && nat_le session (origin.sessions + known.opened))
+past_unknown : (origin : Origin) (known : Sessions) (session : ℕ) → IsPast origin known session → is_known known session ≡ false
+past_unknown origin known session past = ap (λ (o : Option DoneRequest). is_some o) past.none
 
--- only what commits has done its request
-commits_by : (head : Option Head) (o : EntryOutcome) (done : DoneRequest) → done_by head o ≡ Some done → (reply : ℕ) × (o ≡ outcome.Committed reply) × (request_in head ≡ Some done.request)
-commits_by None o done e = absurd cc
-commits_by (Some (AdditionHead p)) o done e = absurd cc
-commits_by (Some (CallHead call told)) (outcome.Committed reply) done e = (reply, refl, by_request call.request e)
+-- a call that commits has done its request, and nothing else has
+commits_by : (head : Option Head) (o : EntryOutcome) (done : DoneRequest) → ((session : ℕ) → o ≡ outcome.Session session → ⊥) → done_by o head ≡ Some done → (reply : ℕ) × (o ≡ outcome.Committed reply) × (request_in head ≡ Some done.request)
+commits_by (Some (CallHead call told)) (outcome.Committed reply) done unopened e = (reply, refl, by_request call.request e)
   where
     by_request : (r : Option RequestId) → option_map (λ request. record { request = request; reply = reply; procedure = call.procedure; args = call.args }) r ≡ Some done → r ≡ Some done.request
     by_request None e = absurd cc
     by_request (Some request) e = ap (option_map (λ (d : DoneRequest). d.request)) e
-commits_by (Some (CallHead call told)) (outcome.Conflict position) done e = absurd cc
-commits_by (Some (CallHead call told)) outcome.Stale done e = absurd cc
-commits_by (Some (CallHead call told)) (outcome.Repeated position reply) done e = absurd cc
-commits_by (Some (CallHead call told)) (outcome.Added number) done e = absurd cc
-commits_by (Some (CallHead call told)) (outcome.Taken identifier) done e = absurd cc
-commits_by (Some (CallHead call told)) (outcome.Session session) done e = absurd cc
-commits_by (Some (CallHead call told)) (outcome.Nothing cause) done e = absurd cc
+commits_by None (outcome.Committed reply) done unopened e = absurd cc
+commits_by (Some (AdditionHead p)) (outcome.Committed reply) done unopened e = absurd cc
+commits_by head (outcome.Session session) done unopened e = absurd (unopened session refl)
+commits_by head (outcome.Conflict position) done unopened e = absurd cc
+commits_by head outcome.Stale done unopened e = absurd cc
+commits_by head (outcome.Repeated position reply) done unopened e = absurd cc
+commits_by head (outcome.Added number) done unopened e = absurd cc
+commits_by head (outcome.Taken identifier) done unopened e = absurd cc
+commits_by head (outcome.Nothing cause) done unopened e = absurd cc
 
--- and nothing was against it
-done_in_session : (s : SiteSetting) (known : Sessions) (entries : List Entry) (bytes : List ℕ) (done : DoneRequest) → done_by (head_of bytes) (outcome_behind s known entries bytes) ≡ Some done
-    → session_cause s.origin known (Some done.request) ≡ None
-done_in_session s known entries bytes done e =
-    let (reply, commits, carries) = commits_by (head_of bytes) (outcome_behind s known entries bytes) done e in
-    let (call, told, is) = committed_from s known entries bytes reply commits in
-    sym (ap (session_cause s.origin known) (sym (ap request_in is.head) ∙ carries)) ∙ is.in_session
+-- a session is numbered behind those that were opened before
+opens_behind : (origin : Origin) (opened : ℕ) (bytes : List ℕ) (session : ℕ) → session_opened (Some origin) opened bytes ≡ Some session → session ≡ origin.sessions + opened + 1
+opens_behind origin opened bytes session = by_test (is_opening bytes && nat_lt (origin.sessions + opened + 1) (2 ^ 32))
+  where
+    by_test : (b : Bool) → cond b (Some (origin.sessions + opened + 1)) None ≡ Some session → session ≡ origin.sessions + opened + 1
+    by_test true e = let same : origin.sessions + opened + 1 ≡ session = cc in sym same
+    by_test false e = absurd cc
 
 module _ (s : SiteSetting) (origin : Origin) (has : s.origin ≡ Some origin) (session : ℕ) where
-  past_next : (known : Sessions) (entries : List Entry) (bytes : List ℕ) → IsPast origin known session → IsPast origin (sessions_with known bytes (outcome_behind s known entries bytes)) session
-  past_next known entries bytes past = record {
-    early = past.early;
-    none = by_done (done_by (head_of bytes) (outcome_behind s known entries bytes)) refl;
-  }
-    where
-      inserted : (done : DoneRequest) → session_cause (Some origin) known (Some done.request) ≡ None → get (insert known.lasts done.request.session done) session ≡ None
-      inserted done within = get-insert nat_cmp_total known.lasts done.request.session done session ∙ by_session (eq_by_cmp nat_cmp session done.request.session) refl
-        where
-          by_session : (b : Bool) → eq_by_cmp nat_cmp session done.request.session ≡ b → cond b (Some done) (get known.lasts session) ≡ None
-          by_session false e = past.none
-          by_session true e =
-              let same : session ≡ done.request.session = tells_apart {R = nat_cmp} nat_cmp-IsAntisymmetric session done.request.session e in
-              absurd (let bad : true ≡ false = sym (known_session origin known done.request within) ∙ ap (is_known origin known) (sym same) ∙ past_unknown origin known session past in cc)
+  module _ (known : Sessions) (entries : List Entry) (bytes : List ℕ) (past : IsPast origin known session) where
+    abbrev told : EntryOutcome
+    told = outcome_behind s known entries bytes
 
-      by_done : (o : Option DoneRequest) → done_by (head_of bytes) (outcome_behind s known entries bytes) ≡ o → get (with_done_if known.lasts o) session ≡ None
-      by_done None e = past.none
-      by_done (Some done) e = elim (is_superseded (get known.lasts done.request.session) done.request) as (λ b. get (cond b known.lasts (insert known.lasts done.request.session done)) session ≡ None) [
-        | true ↦ past.none
-        | false ↦ inserted done (sym (ap (λ (o : Option Origin). session_cause o known (Some done.request)) has) ∙ done_in_session s known entries bytes done e)
-      ]
+    -- another session has done something
+    others : (done : DoneRequest) → (session ≡ done.request.session → ⊥) → get (with_done known.lasts done) session ≡ None
+    others done other = elim (is_superseded (get known.lasts done.request.session) done.request) as (λ b. get (cond b known.lasts (insert known.lasts done.request.session done)) session ≡ None) [
+      | true ↦ past.none
+      | false ↦ get-insert nat_cmp_total known.lasts done.request.session done session ∙ by_session (eq_by_cmp nat_cmp session done.request.session) refl
+    ]
+      where
+        by_session : (b : Bool) → eq_by_cmp nat_cmp session done.request.session ≡ b → cond b (Some done) (get known.lasts session) ≡ None
+        by_session false e = past.none
+        by_session true e = absurd (other (tells_apart {R = nat_cmp} nat_cmp-IsAntisymmetric session done.request.session e))
+
+    is_opened : (opened : ℕ) → told ≡ outcome.Session opened → session ≡ opened → ⊥
+    is_opened opened opens same =
+        let behind = opens_behind origin known.opened bytes opened (ap (λ (o : Option Origin). session_opened o known.opened bytes) (sym has) ∙ opened_from s known entries bytes opened opens) in
+        let early = past.early in
+        omega arith
+
+    -- nothing was against a call that committed
+    is_committed : ((opened : ℕ) → told ≡ outcome.Session opened → ⊥) → (done : DoneRequest) → done_by told (head_of bytes) ≡ Some done → session ≡ done.request.session → ⊥
+    is_committed unopened done e same =
+        let (reply, commits, carries) = commits_by (head_of bytes) told done unopened e in
+        let (call, replied, is) = committed_from s known entries bytes reply commits in
+        let within : session_cause (Some origin) known (Some done.request) ≡ None =
+        ap (λ (o : Option Origin). session_cause o known (Some done.request)) (sym has) ∙ ap (session_cause s.origin known) (sym carries ∙ ap request_in is.head) ∙ is.in_session in
+        let bad : true ≡ false = sym (known_session origin known done.request within) ∙ ap (is_known known) (sym same) ∙ past_unknown origin known session past in
+        cc
+
+    none_next : (o : EntryOutcome) → told ≡ o → get (with_done_if known.lasts (done_by o (head_of bytes))) session ≡ None
+    none_next (outcome.Session opened) opens = others (nothing_done opened) (is_opened opened opens)
+    none_next (outcome.Committed reply) commits = by_done (done_by (outcome.Committed reply) (head_of bytes)) refl
+      where
+        unopened : (opened : ℕ) → told ≡ outcome.Session opened → ⊥
+        unopened opened e = let bad : outcome.Committed reply ≡ outcome.Session opened = sym commits ∙ e in cc
+
+        by_done : (o : Option DoneRequest) → done_by (outcome.Committed reply) (head_of bytes) ≡ o → get (with_done_if known.lasts o) session ≡ None
+        by_done None e = past.none
+        by_done (Some done) e = others done (is_committed unopened done (ap (λ (o : EntryOutcome). done_by o (head_of bytes)) commits ∙ e))
+    none_next (outcome.Conflict position) is = past.none
+    none_next outcome.Stale is = past.none
+    none_next (outcome.Repeated position reply) is = past.none
+    none_next (outcome.Added number) is = past.none
+    none_next (outcome.Taken identifier) is = past.none
+    none_next (outcome.Nothing cause) is = past.none
+
+    past_next : IsPast origin (sessions_with known bytes told) session
+    past_next =
+        let early = past.early in
+        let grows = (opens_one known.opened told).0 in
+        record { early = omega arith; none = none_next told refl }
 
   past_later : SessionsGoOn → (order more : Order) → IsPast origin (sessions_after s order) session → IsPast origin (sessions_after s (order ++ more)) session
   past_later next order [] past = subst (λ (o : Order). IsPast origin (sessions_after s o) session) (sym (append-nil order)) past
@@ -259,13 +259,13 @@ module _ (s : SiteSetting) (origin : Origin) (has : s.origin ≡ Some origin) (s
 -- what is against a call of a session that was numbered stays so
 pub stays_against : SessionsGoOn → (s : SiteSetting) (order more : Order) (origin : Origin) (request : RequestId) (why : NothingCause) → s.origin ≡ Some origin → WasNumbered origin (sessions_after s order) request
     → session_cause (Some origin) (sessions_after s order) (Some request) ≡ Some why → (later : NothingCause) × (session_cause (Some origin) (sessions_after s (order ++ more)) (Some request) ≡ Some later)
-stays_against next s order more origin request why has numbered against = by_known (is_known origin (sessions_after s order) request.session) refl
+stays_against next s order more origin request why has numbered against = by_known (is_known (sessions_after s order) request.session) refl
   where
     now : Sessions
     now = sessions_after s (order ++ more)
 
-    by_known : (b : Bool) → is_known origin (sessions_after s order) request.session ≡ b → (later : NothingCause) × (session_cause (Some origin) now (Some request) ≡ Some later)
+    by_known : (b : Bool) → is_known (sessions_after s order) request.session ≡ b → (later : NothingCause) × (session_cause (Some origin) now (Some request) ≡ Some later)
     by_known true e = (Superseded, out_of_session_stays origin (sessions_after s order) now (more_known next s order more) request why e against)
     by_known false e =
-        let past = past_later s origin has request.session next order more (is_past origin (sessions_after s order) request.session numbered e) in
+        let past = past_later s origin has request.session next order more (record { early = numbered; none = has_none (sessions_after s order) request.session e }) in
         (UnknownSession, ap (λ (b : Bool). cond (not b) (Some UnknownSession) (cond (is_superseded (get now.lasts request.session) request) (Some Superseded) None)) (past_unknown origin now request.session past))

@@ -4,3 +4,4 @@ pub mod Order
 pub mod Answer
 pub mod Fit
 pub mod Own
+pub mod Next

@@ -1,6 +1,6 @@
 -- The sessions of an order, and what each has done last: of its calls that committed, the one of the greatest number (this
 -- product's own rules).
-use Rattle.std.specs.Prelude.{ℕ, suc, ◌+◌, ◌^◌, ◌==◌, nat_le, nat_lt, Bool, false, not, is_some, ◌&&◌, ◌||◌, if◌then◌else◌, List, ◌∷◌, length, Option, Some, None}
+use Rattle.std.specs.Prelude.{ℕ, suc, ◌+◌, ◌^◌, ◌==◌, nat_lt, Bool, false, not, is_some, ◌&&◌, if◌then◌else◌, List, [], ◌∷◌, length, Option, Some, None}
 use Rattle.std.specs.List.{fold}
 use Rattle.std.specs.Option.{option_map}
 use Rattle.std.specs.Ordering.{nat_cmp}
@@ -38,11 +38,16 @@ with_done_if lasts (Some done) = with_done lasts done
 abbrev pub lasts_of : List DoneRequest → LastRequests
 lasts_of done = fold with_done empty done
 
--- what the bytes of a call with a request have done, where the call commits
-abbrev pub done_by : Option Head → EntryOutcome → Option DoneRequest
-done_by (Some (CallHead call told)) (Committed reply) =
+-- a session that has done nothing: its last request is one of number 0, which no call carries
+abbrev pub nothing_done : ℕ → DoneRequest
+nothing_done session = record { request = record { session = session; sequence = 0 }; reply = 0; procedure = 0; args = [] }
+
+-- what a byte string has done of a session, by its outcome: it opens the session, or is a call with a request that commits
+abbrev pub done_by : EntryOutcome → Option Head → Option DoneRequest
+done_by (Session session) head = Some (nothing_done session)
+done_by (Committed reply) (Some (CallHead call told)) =
     option_map (λ request. record { request = request; reply = reply; procedure = call.procedure; args = call.args }) call.request
-done_by head outcome = None
+done_by outcome head = None
 
 -- ---- what is known of sessions behind an order: how many the order opened, and the last request of each
 
@@ -58,7 +63,7 @@ opened_with opened outcome = opened
 abbrev pub sessions_with : Sessions → List ℕ → EntryOutcome → Sessions
 sessions_with known bytes outcome = record {
   opened = opened_with known.opened outcome;
-  lasts = with_done_if known.lasts (done_by (head_of bytes) outcome);
+  lasts = with_done_if known.lasts (done_by outcome (head_of bytes));
 }
 
 -- ---- an order with an origin opens sessions, and knows which there are
@@ -74,16 +79,15 @@ session_opened None opened bytes = None
 session_opened (Some origin) opened bytes =
     if is_opening bytes && nat_lt (origin.sessions + opened + 1) (2 ^ 32) then Some (origin.sessions + opened + 1) else None
 
--- it has a last request, of a call that committed or told of before the order, or the order opened it
-abbrev pub is_known : Origin → Sessions → ℕ → Bool
-is_known origin known session =
-    is_some (get known.lasts session) || (nat_lt origin.sessions session && nat_le session (origin.sessions + known.opened))
+-- it was told of before the order, or the order opened it, so that it has a last request
+abbrev pub is_known : Sessions → ℕ → Bool
+is_known known session = is_some (get known.lasts session)
 
 -- why a call that carries this request can't be taken for its session's sake
 abbrev pub session_cause : Option Origin → Sessions → Option RequestId → Option NothingCause
 session_cause None known request = None
 session_cause (Some origin) known None = None
 session_cause (Some origin) known (Some request) =
-    if not (is_known origin known request.session) then Some UnknownSession
+    if not (is_known known request.session) then Some UnknownSession
     else if is_superseded (get known.lasts request.session) request then Some Superseded
     else None

@@ -20,6 +20,7 @@ use Rattle.site_model.specs.Sessions.{Sessions, session_cause, session_opened}
 -- what all sites of an order have in common
 pub record SiteSetting : Type 0 where
   pub setting : Setting
+  pub table_list : List (ℕ × ℕ)  -- the tables with their widths, in the order in which they were told
   pub takes_additions : Bool
   pub origin : Option Origin  -- of an order that opens sessions
 

@@ -9,7 +9,7 @@ use Rattle.log_model.specs.OpenRequest.{given_request}
 use Rattle.site_model.specs.Order.{Order, next_outcome, request_in}
 use Rattle.site_service.specs.declared.line.SiteLine.TheVariants.{Call}
 use Rattle.site_service.specs.Lines.{SiteRequest}
-use Rattle.site_service.specs.Answers.{entry_line, order_full_line}
+use Rattle.site_report.specs.Answers.{entry_line, order_full_line}
 use Rattle.site_service.specs.LineAnswers.{IsAnswer, IsCallAnswer, entry_answer, is_full, order_with_bytes}
 
 -- ---- a byte string

@@ -5,8 +5,8 @@ use Rattle.script.specs.declared.fault.LineFault.{LineFault}
 use Rattle.site_model.specs.Standing.{SiteSetting}
 use Rattle.site_model.specs.Order.{Order}
 use Rattle.site_service.specs.Lines.{SiteRequest, line_says}
-use Rattle.site_service.specs.declared.line.SiteLine.TheVariants.{Call, Add, Entry, Rows, Scan, Position}
-use Rattle.site_service.specs.Answers.{fault_line}
+use Rattle.site_service.specs.declared.line.SiteLine.TheVariants.{Call, Add, Entry, Rows, Scan, Dump, Position}
+use Rattle.site_report.specs.Answers.{fault_line}
 use Rattle.site_service.specs.LineAnswers.{IsAnswer, IsLineAnswer, order_behind}
 use Rattle.site_service.specs.Answering.{AreAnswers, order_after}
 
@@ -47,6 +47,7 @@ can_answer s order (Add p) = (_, inl refl)
 can_answer s order (Entry bytes) = (_, refl)
 can_answer s order Rows = (_, refl)
 can_answer s order (Scan scan) = (_, refl)
+can_answer s order Dump = (_, refl)
 can_answer s order Position = (_, refl)
 
 can_answer_line : (s : SiteSetting) (order : Order) (says : Result (Option SiteRequest) LineFault) → (text : List ℕ) × IsLineAnswer s order says text

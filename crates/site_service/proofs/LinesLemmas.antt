@@ -14,7 +14,7 @@ use Rattle.site_service.specs.declared.input.NextLine.TheVariants as next
 use Rattle.site_service.specs.declared.input.TheConstants.{MAX_SITE_LINE}
 use Rattle.site_service.specs.InputLines.{IsNextLine, whole_lines}
 use Rattle.site_service.specs.LineAnswers.{IsLineAnswer, order_behind}
-use Rattle.site_service.specs.Answers.{fault_line}
+use Rattle.site_report.specs.Answers.{fault_line}
 use Rattle.script.proofs.LineLemmas.{says-too_long}
 use Rattle.script.specs.Line.{fields_say}
 use Rattle.site_service.specs.Lines.{line_says, request_behind, word_of}

@@ -6,7 +6,7 @@ use Rattle.std.proofs.Math.Seq.{take-nil}
 use Rattle.schema.specs.Rows.{Key, Rows}
 use Rattle.row_scan.specs.Left.{ScanState, rows_left}
 use Rattle.site_service.specs.declared.line.Scan.{Scan}
-use Rattle.site_service.specs.Answers.{row_text}
+use Rattle.site_report.specs.Answers.{row_text}
 use Rattle.site_service.specs.Scanned.{look_of, scanned_rows}
 
 -- these rows were appended, so many, and those that are left of the scan stand behind them

@@ -1,8 +1,6 @@
 pub mod Answering
 pub mod Leaving
 pub mod Lines
-pub mod Answers
-pub mod Digits
 pub mod Scanned
 pub mod InputLines
 pub mod Settings

@@ -11,11 +11,13 @@ use Rattle.site_model.specs.declared.origin.Origin.{Origin}
 use Rattle.site_model.specs.Standing.{SiteSetting}
 use Rattle.site_model.specs.Order.{Order, next_outcome, order_log, request_in}
 use Rattle.site_model.specs.Answer.{Asked, addition_answer, call_answer, takes_memory}
-use Rattle.site_service.specs.declared.line.SiteLine.TheVariants.{Call, Add, Entry, Rows as RowsLine, Scan as ScanLine, Position}
+use Rattle.site_model.specs.Next.{next_setting}
+use Rattle.site_service.specs.declared.line.SiteLine.TheVariants.{Call, Add, Entry, Rows as RowsLine, Scan as ScanLine, Dump, Position}
 use Rattle.site_service.specs.declared.line.Scan.{Scan}
 use Rattle.site_service.specs.Lines.{SiteRequest}
-use Rattle.site_service.specs.Answers.{entry_line, call_line, addition_line, position_line, row_text, row_count_line, fault_line}
-use Rattle.site_service.specs.Answers.{order_full_line, no_memory_line, no_table_line}
+use Rattle.site_report.specs.Answers.{entry_line, call_line, addition_line, position_line, row_text, row_count_line, fault_line}
+use Rattle.site_report.specs.Answers.{order_full_line, no_memory_line, no_table_line}
+use Rattle.site_report.specs.SettingsText.{dump_text}
 use Rattle.site_service.specs.Scanned.{scanned_rows}
 use Rattle.site_service.specs.declared.entry.TheConstants.{MAX_POSITION, MAX_STRINGS}
 
@@ -65,6 +67,10 @@ scan_answer s order scan =
     then rows_text (length order) (scanned_rows scan (rows_after s.setting (order_log s order) (length order)))
     else no_table_line
 
+-- the settings of a database that goes on behind the order
+abbrev pub dump_answer : SiteSetting → Order → List ℕ
+dump_answer s order = dump_text (length order) (next_setting s order)
+
 -- a call whose answer takes memory is refused where memory is wanting
 abbrev pub IsCallAnswer : SiteSetting → Order → Asked → List ℕ → Type 0
 IsCallAnswer s order asked text = (text ≡ call_line (call_answer s order asked))
@@ -84,6 +90,7 @@ IsAnswer s order (Add p) text =
 IsAnswer s order (Entry bytes) text = text ≡ entry_answer s order bytes
 IsAnswer s order RowsLine text = text ≡ rows_answer s order
 IsAnswer s order (ScanLine scan) text = text ≡ scan_answer s order scan
+IsAnswer s order Dump text = text ≡ dump_answer s order
 IsAnswer s order Position text = text ≡ position_line (length order)
 
 -- to a line, by what it says: a line that says nothing isn't answered

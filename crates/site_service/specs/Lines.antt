@@ -8,7 +8,7 @@ use Rattle.script.specs.Text.{u32_of, u8_of, u64_of, count_of, bytes_of_hex}
 use Rattle.site_service.specs.declared.input.TheConstants.{MAX_SITE_LINE}
 use Rattle.site_service.specs.declared.line.Scan.{Scan}
 use Rattle.site_service.specs.declared.line.SiteLine.{SiteLine}
-use Rattle.site_service.specs.declared.line.SiteLine.TheVariants.{Call, Add, Entry, Rows, Scan as ScanLine, Position}
+use Rattle.site_service.specs.declared.line.SiteLine.TheVariants.{Call, Add, Entry, Rows, Scan as ScanLine, Dump, Position}
 use Rattle.site_service.specs.declared.word.Word.{Word}
 use Rattle.site_service.specs.declared.word.Word.TheVariants as word
 
@@ -19,7 +19,7 @@ SiteRequest = SiteLine (List ℕ)
 abbrev pub word_of : List ℕ → Option Word
 word_of text = word_spelled (
     (codes "call", word.Call) ∷ (codes "add", word.Add) ∷ (codes "entry", word.Entry) ∷ (codes "rows", word.Rows)
-    ∷ (codes "scan", word.Scan) ∷ (codes "position", word.Position) ∷ []) text
+    ∷ (codes "scan", word.Scan) ∷ (codes "dump", word.Dump) ∷ (codes "position", word.Position) ∷ []) text
 
 -- a call. Session and sequence number may be 0
 abbrev pub call_of : List ℕ → List ℕ → List ℕ → List ℕ → Result SiteRequest LineFault
@@ -37,6 +37,7 @@ request_behind word.Add (name ∷ number ∷ args_len ∷ program ∷ []) = made
 request_behind word.Entry (bytes ∷ []) = one Entry (bytes_of_hex bytes)
 request_behind word.Rows [] = Ok Rows
 request_behind word.Scan (table ∷ lo ∷ hi ∷ most ∷ []) = made_of ScanLine (scan_of table lo hi most)
+request_behind word.Dump [] = Ok Dump
 request_behind word.Position [] = Ok Position
 request_behind _ _ = Err fault.FieldCount
 

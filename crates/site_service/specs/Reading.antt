@@ -1,21 +1,12 @@
 -- What the code's values stand for.
 use Rattle.std.specs.Prelude.{◌≤◌}
 use Rattle.schema.specs.declared.limits.TheConstants.{MAX_WINDOW}
-use Rattle.site_model.specs.Standing.{SiteSetting}
-use Rattle.site_service.specs.declared.settings.SiteSettings.{SiteSettings}
+use Rattle.site.specs.declared.settings.SiteSettings.{SiteSettings}
 use Rattle.site_service.specs.declared.settings_reading.Reading.{Reading}
 use Rattle.site_service.specs.Settings.{SettingsSoFar}
-use Rattle.catalogue.specs.Catalogue.{system_setting}
 
 abbrev pub so_far : {A : Type 0} → Reading A → SettingsSoFar
 so_far reading = record { settings = reading.settings; takes_additions = reading.takes_additions; origin = reading.origin }
-
-abbrev pub setting_read : {A : Type 0} → SiteSettings A → SiteSetting
-setting_read s = record {
-  setting = system_setting s.catalogue s.window;
-  takes_additions = s.takes_additions;
-  origin = s.origin;
-}
 
 abbrev pub HasWindow : {A : Type 0} → SiteSettings A → Type 0
 HasWindow s = (1 ≤ s.window) × (s.window ≤ MAX_WINDOW)

@@ -101,6 +101,7 @@ abbrev pub with_window : SettingsSoFar → Option ℕ → Result SiteSetting Scr
 with_window s None = Err (fault_at 0 Place)
 with_window s (Some window) = Ok (record {
   setting = system_setting s.settings.catalogue window;
+  table_list = s.settings.table_list;
   takes_additions = s.takes_additions;
   origin = s.origin;
 })

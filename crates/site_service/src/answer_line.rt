@@ -10,22 +10,25 @@ ghost use Rattle.site.specs.Answered.{asked_of};
 ghost use Rattle.site_service.specs.LineAnswers.{IsAdditionAnswer, IsAnswer, IsCallAnswer, IsLineAnswer};
 ghost use Rattle.site_service.specs.LineAnswers.{order_behind, order_with};
 
+use crate::answer_dump::answer_dump;
 use crate::answer_scan::answer_scan;
-use crate::answers::{append_addition_line, append_call_line};
 use crate::entry::answer_entry;
 use crate::line::{SiteLine, site_line};
 use crate::rows::answer_rows;
-use crate::status::{append_fault_line, append_no_memory_line, append_position_line};
 use byte_output::sink::ByteSink;
 use log_entry::NamedProgram;
 use log_model::given_request;
 use row_sets::Bytes;
 use script::LineFault;
 use site::{Asked, Site};
+use site_report::{
+    append_addition_line, append_call_line, append_fault_line, append_no_memory_line,
+    append_position_line,
+};
 use std::alloc::{AllocError, Allocator};
 
 /// Appends what a site answers to a line, given without its LF. There may be no memory for what the line says, for a
-/// byte string of the order, or for the rows. Nothing is appended then, and the site is dropped.
+/// byte string of the order, for the rows or for a dump. Nothing is appended then, and the site is dropped.
 pub fn answer<A: Allocator + Copy, S: ByteSink>(
     alloc: A,
     site: Site<A>,
@@ -100,6 +103,10 @@ fn answer_request<A: Allocator + Copy, S: ByteSink>(
         }
         SiteLine::Scan(scan) => {
             answer_scan(&site, sink, *scan);
+            Ok(site)
+        }
+        SiteLine::Dump => {
+            answer_dump(alloc, &site, sink)?;
             Ok(site)
         }
         SiteLine::Position => {

@@ -6,9 +6,9 @@ ghost use Rattle.site_service.specs.LineAnswers.{scan_answer};
 
 use crate::line::Scan;
 use crate::scans::append_scanned;
-use crate::status::{append_no_table_line, append_row_count_line};
 use byte_output::sink::ByteSink;
 use site::Site;
+use site_report::{append_no_table_line, append_row_count_line};
 use std::alloc::Allocator;
 
 /// Appends the rows at the last position that a scan asks for, and their number, or that there is no such table. Takes

@@ -7,13 +7,12 @@ ghost use Rattle.site_model.specs.Order.{Order, request_in};
 ghost use Rattle.site.specs.Replica.{StandsForOrder, setting_of};
 ghost use Rattle.site_service.specs.LineAnswers.{entry_answer, is_full, order_with_bytes};
 
-use crate::answers::append_entry_line;
-use crate::status::append_order_full_line;
 use byte_output::sink::ByteSink;
 use log_entry::{EntryHead, head_of};
 use log_model::RequestId;
 use site::Site;
 use site_model::Origin;
+use site_report::{append_entry_line, append_order_full_line};
 use std::alloc::{AllocError, Allocator};
 
 /// The most byte strings that an order has.

@@ -43,6 +43,8 @@ pub enum SiteLine<B> {
     Rows,
     /// The first rows of a table from a key to another.
     Scan(Scan),
+    /// The settings of a database that goes on from the last position.
+    Dump,
     Position,
 }
 

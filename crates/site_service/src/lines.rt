@@ -8,11 +8,11 @@ ghost use Rattle.site_service.specs.Answering.{GivesLines, IsAppended, IsNoText,
 
 use crate::answer_line::answer;
 use crate::input::{NextLine, next_line};
-use crate::status::append_fault_line;
 use byte_output::paged::PagedOutput;
 use byte_output::{OutputSink, finish};
 use script::{LineFault, Stop, out_of_memory};
 use site::Site;
+use site_report::append_fault_line;
 use std::alloc::Allocator;
 use std::io;
 use std::io::{BufRead, ErrorKind, Write};

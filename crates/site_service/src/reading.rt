@@ -39,6 +39,7 @@ impl<A: Allocator + Copy> LineMeaning<A, Word> for SiteLine<Bytes<A>> {
                 let scan = read_scan(table, lo, hi, most)?;
                 Ok(SiteLine::Scan(scan))
             }
+            (Word::Dump, []) => Ok(SiteLine::Dump),
             (Word::Position, []) => Ok(SiteLine::Position),
             _ => Err(LineFault::FieldCount),
         }

@@ -4,13 +4,13 @@ ghost use Rattle.std.specs.Prelude.{◌≡◌, map, OnErr, OnOk};
 ghost use Rattle.std.specs.List.{concat};
 ghost use Rattle.site_model.specs.Order.{Order};
 ghost use Rattle.site.specs.Replica.{StandsForOrder, setting_of};
-ghost use Rattle.site_service.specs.Answers.{row_text};
+ghost use Rattle.site_report.specs.Answers.{row_text};
 ghost use Rattle.site_service.specs.LineAnswers.{rows_answer};
 
-use crate::status::{append_row_count_line, append_row_line};
 use byte_output::sink::ByteSink;
 use row_sets::Row;
 use site::Site;
+use site_report::{append_row_count_line, append_row_line};
 use std::alloc::{AllocError, Allocator};
 
 /// Appends the rows at the last position, in the order of tables and keys, and their number.

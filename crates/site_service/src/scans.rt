@@ -3,14 +3,14 @@
 ghost use Rattle.std.specs.Prelude.{◌≡◌, false, length, map};
 ghost use Rattle.std.specs.List.{concat};
 ghost use Rattle.schema.specs.Rows.{Rows};
-ghost use Rattle.site_service.specs.Answers.{row_text};
+ghost use Rattle.site_report.specs.Answers.{row_text};
 ghost use Rattle.site_service.specs.Scanned.{scanned_rows};
 
 use crate::line::Scan;
-use crate::status::append_row_line;
 use byte_output::sink::ByteSink;
 use row_scan::RowScan;
 use schema::Look;
+use site_report::append_row_line;
 use txn_view::Store;
 
 /// Appends the rows that a scan asks for, and returns their number. No other row is looked at. Takes no memory.

@@ -77,13 +77,7 @@ fn serve<A: Allocator + Copy, S: BufRead, R: BufRead, W: Write>(
     let Ok(mut line) = Vec::with_capacity(alloc, MAX_SITE_LINE + 1) else {
         return Err(out_of_memory(0));
     };
-    let Ok(site) = Site::new(
-        alloc,
-        settings.window,
-        settings.catalogue,
-        settings.takes_additions,
-        settings.origin,
-    ) else {
+    let Ok(site) = Site::new(alloc, settings) else {
         return Err(out_of_memory(0));
     };
     answer_lines(alloc, site, input, output, &mut line)

@@ -6,12 +6,12 @@ ghost use Rattle.script.specs.declared.cause.FaultCause.TheVariants.{NoMemory};
 ghost use Rattle.site_service.specs.Settings.{is_beyond, with_additions, with_origin, with_setting};
 ghost use Rattle.site_service.specs.Reading.{so_far};
 
-use crate::settings::SiteSettings;
 use crate::settings_line::{SettingsLine, SettingsWord};
 use row_sets::Bytes;
 use script::{
     FaultCause, LineReader, MAX_LINE, ScriptFault, Setting, Settings, Statement, read_line,
 };
+use site::SiteSettings;
 use site_model::Origin;
 use std::alloc::{AllocError, Allocator};
 
@@ -87,7 +87,8 @@ impl<A: Allocator + Copy> LineReader<A> for Reading<A> {
     ghost use Rattle.site_model.specs.Standing.{SiteSetting};
     ghost use Rattle.site_service.specs.Settings.{SettingsSoFar, after_line, nothing_set, said_behind};
     ghost use Rattle.site_service.specs.Settings.{whole, with_line, word_of};
-    ghost use Rattle.site_service.specs.Reading.{HasWindow, setting_read, so_far};
+    ghost use Rattle.site.specs.Settings.{site_setting};
+    ghost use Rattle.site_service.specs.Reading.{HasWindow, so_far};
 
     type Whole = SiteSettings<A>;
 
@@ -101,7 +102,7 @@ impl<A: Allocator + Copy> LineReader<A> for Reading<A> {
 
     ghost WholeMeaning = { SiteSetting };
 
-    ghost meant_by = { setting_read };
+    ghost meant_by = { site_setting };
 
     ghost at_end = { whole };
 
@@ -140,9 +141,11 @@ impl<A: Allocator + Copy> LineReader<A> for Reading<A> {
                 cause: FaultCause::Place,
             });
         };
+        let (table_list, catalogue) = settings.into_tables();
         Ok(SiteSettings {
             window,
-            catalogue: settings.into_catalogue(),
+            catalogue,
+            table_list,
             takes_additions,
             origin,
         })

@@ -10,6 +10,7 @@ pub enum Word {
     Entry,
     Rows,
     Scan,
+    Dump,
     Position,
 }
 
@@ -29,6 +30,8 @@ impl LineWord for Word {
             Word::Rows
         } else if text == "scan" {
             Word::Scan
+        } else if text == "dump" {
+            Word::Dump
         } else if text == "position" {
             Word::Position
         } else {

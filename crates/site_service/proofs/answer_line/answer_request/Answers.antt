@@ -1,7 +1,7 @@
 use Rattle.std.proofs.Common.{refl, sym, subst, ap}
-use Rattle.site_service.specs.Answers.{position_line}
+use Rattle.site_report.specs.Answers.{position_line}
 use Rattle.site.specs.Replica.{setting_of}
-use Rattle.site_service.specs.LineAnswers.{IsAnswer, entry_answer, rows_answer, scan_answer}
+use Rattle.site_service.specs.LineAnswers.{IsAnswer, dump_answer, entry_answer, rows_answer, scan_answer}
 use Rattle.script.proofs.SaidLemmas.{ok_gives}
 use Rattle.site_service.proofs.AnswerLemmas.{call_answered}
 use Rattle.site_service.proofs.answer_line.answer_request.Goals as goal
@@ -26,6 +26,13 @@ returns-in_ok-answer_rows-in-Rows-clause-answered g c = λ order stands. (
   rows_answer (setting_of c.args.site) order,
   subst (λ r. IsAnswer (setting_of c.args.site) order r (rows_answer (setting_of c.args.site) order)) (sym c.in-Rows.is) refl,
   c.in_ok-answer_rows-in-Rows.ensures.answered order stands,
+)
+
+pub returns-in_ok-answer_dump-in-Dump-clause-answered : goal.returns-in_ok-answer_dump-in-Dump-clause-answered
+returns-in_ok-answer_dump-in-Dump-clause-answered g c = λ order stands. (
+  dump_answer (setting_of c.args.site) order,
+  subst (λ r. IsAnswer (setting_of c.args.site) order r (dump_answer (setting_of c.args.site) order)) (sym c.in-Dump.is) refl,
+  c.in_ok-answer_dump-in-Dump.ensures.answered order stands,
 )
 
 pub returns-in-Position-clause-answered : goal.returns-in-Position-clause-answered

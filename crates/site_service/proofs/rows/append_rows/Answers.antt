@@ -3,7 +3,7 @@ use Rattle.std.proofs.lemmas.List.{at_drop_more, append_assoc, append-nil}
 use Rattle.std.proofs.Math.ListN.{drop_of_length-le}
 use Rattle.std.specs.List.{concat}
 use Rattle.schema.specs.Rows.{Key}
-use Rattle.site_service.specs.Answers.{row_text}
+use Rattle.site_report.specs.Answers.{row_text}
 use Rattle.site_service.proofs.rows.append_rows.Goals as goal
 
 pub loop-row-preserved : goal.loop-row-preserved

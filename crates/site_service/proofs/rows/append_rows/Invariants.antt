@@ -1,6 +1,6 @@
 use Rattle.std.proofs.Common.{◌≡◌, ℕ, List, ◌++◌, drop, map}
 use Rattle.std.specs.List.{concat}
-use Rattle.site_service.specs.Answers.{row_text}
+use Rattle.site_report.specs.Answers.{row_text}
 use Rattle.site_service.proofs.rows.append_rows.Given as goal
 
 -- the lines of the rows that are left follow what was appended of all

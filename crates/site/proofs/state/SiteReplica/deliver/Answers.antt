@@ -24,6 +24,7 @@ pub returns-clause-stands : goal.returns-clause-stands
 returns-clause-stands g c entries e f =
     let s : SiteReplica = record {
       catalogue = c.self.inside.catalogue;
+      table_list = c.self.inside.table_list.items;
       takes_additions = c.self.inside.takes_additions;
       origin = c.self.inside.origin;
       replica = c.self.inside.replica;
@@ -39,6 +40,7 @@ returns-clause-stands g c entries e f =
     let additions : c.keep_addition.new.additions.items ≡ additions_after c.self.inside.additions.items (entry_of c.args.entry.now) c.in-Ok.verdict c.deliver.new.self.position = search rules in
     subst (λ (xs : List (ℕ × ℕ)). StandsForLog (record {
       catalogue = c.self.inside.catalogue;
+      table_list = c.self.inside.table_list.items;
       takes_additions = c.self.inside.takes_additions;
       origin = c.self.inside.origin;
       replica = c.deliver.new.self;
@@ -48,6 +50,7 @@ returns-clause-stands g c entries e f =
     }) (entries ++ e ∷ [])) (sym additions)
     (subst (λ (xs : List ℕ). StandsForLog (record {
       catalogue = c.self.inside.catalogue;
+      table_list = c.self.inside.table_list.items;
       takes_additions = c.self.inside.takes_additions;
       origin = c.self.inside.origin;
       replica = c.deliver.new.self;

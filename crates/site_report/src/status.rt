@@ -1,7 +1,7 @@
 //! The lines of a site that tell neither of an entry nor of what is asked for.
 
-ghost use Rattle.site_service.specs.Answers.{fault_line, no_memory_line, no_table_line, order_full_line, position_line};
-ghost use Rattle.site_service.specs.Answers.{row_count_line, row_line};
+ghost use Rattle.site_report.specs.Answers.{fault_line, no_memory_line, no_table_line, order_full_line, position_line};
+ghost use Rattle.site_report.specs.Answers.{row_count_line, row_line};
 ghost use Rattle.report.specs.Lines.{row_label};
 
 use crate::hex_digits::append_digits;

@@ -1,4 +1,4 @@
-use Rattle.site_service.proofs.answers.append_submission.Goals as goal
+use Rattle.site_report.proofs.answers.append_submission.Goals as goal
 
 pub returns : goal.returns
 returns g c =

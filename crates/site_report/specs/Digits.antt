@@ -2,7 +2,7 @@
 use Rattle.std.proofs.Common.{◌≡◌, ℕ, List, [], ◌++◌, ◌∙◌, refl, subst, sym}
 use Rattle.hex.specs.Hex.{encode_with, encode_lower, lower_digits}
 use Rattle.report.proofs.PrintingLemmas.{encode_append}
-use Rattle.site_service.specs.declared.hex_digits.HexSink.{HexSink}
+use Rattle.site_report.specs.declared.hex_digits.HexSink.{HexSink}
 
 -- it is the same sink behind, to which the digits of these bytes were appended
 abbrev pub HasInHex : {S : Type 0} → (S → S → List ℕ → Type 0) → HexSink S → HexSink S → List ℕ → Type 0

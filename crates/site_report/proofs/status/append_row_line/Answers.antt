@@ -1,4 +1,4 @@
-use Rattle.site_service.proofs.status.append_row_line.Goals as goal
+use Rattle.site_report.proofs.status.append_row_line.Goals as goal
 
 pub returns : goal.returns
 returns g c =

@@ -3,10 +3,12 @@
 ghost use Rattle.std.specs.Prelude.{◌≡◌, ◌≤◌, ◌+◌, ◌++◌, codes, length};
 ghost use Rattle.std.specs.Fmt.{decimal};
 ghost use Rattle.arrayvec.specs.ArrayVec.{array_vec_len};
-ghost use Rattle.site_service.specs.Answers.{addition_refusal_words, entry_line, outcome_words, request_words};
+ghost use Rattle.site_report.specs.Answers.{addition_refusal_words, entry_line, outcome_words, request_words};
+ghost use Rattle.site_report.specs.SettingsText.{next_number};
 
 use crate::numbers::nothing_number;
 use byte_output::line::{LineBuffer, push, push_unsigned};
+use itoa::Buffer;
 use log_model::{Identifier, RequestId};
 use report::push_program_fault;
 use site_model::{AdditionRefusal, EntryOutcome};
@@ -106,4 +108,25 @@ pub(crate) fn two_number_line(label: &str, position: u32, other: &str, number: u
     push_unsigned(&mut words, other, number);
     push(&mut words, b"\n");
     words
+}
+
+/// Appends a number behind a space.
+pub(crate) fn push_number(words: &mut LineBuffer, number: u64)
+    requires { array_vec_len words.old ≤ 100 }
+    ensures items { words.new.items ≡ words.old.items ++ next_number number }
+    ensures len { array_vec_len words.new ≤ array_vec_len words.old + 21 }
+{
+    push_unsigned(words, " ", number);
+}
+
+/// Appends a label and a number of up to 128 bits.
+pub(crate) fn push_wide(words: &mut LineBuffer, label: &str, number: u128)
+    requires room { array_vec_len words.old ≤ 60 }
+    requires label { length label.now ≤ 20 }
+    ensures items { words.new.items ≡ words.old.items ++ (label.now ++ decimal number) }
+    ensures len { array_vec_len words.new ≤ array_vec_len words.old + 60 }
+{
+    let mut digits = Buffer::new();
+    push(words, label.as_bytes());
+    push(words, digits.format(number).as_bytes());
 }

@@ -1,7 +1,7 @@
 //! The numbers of causes and refusals.
 
 ghost use Rattle.std.specs.Prelude.{◌≡◌};
-ghost use Rattle.site_service.specs.Answers.{number_of_call_refusal, number_of_nothing};
+ghost use Rattle.site_report.specs.Answers.{number_of_call_refusal, number_of_nothing};
 
 use log_model::CallRefusal;
 use site_model::NothingCause;

@@ -2,8 +2,8 @@
 
 ghost use Rattle.log_entry.specs.Bytes.{entry_bytes};
 ghost use Rattle.log_entry.specs.Kind.{entry_of};
-ghost use Rattle.site_service.specs.Answers.{addition_line, addition_with_bytes, call_line, call_with_bytes};
-ghost use Rattle.site_service.specs.Answers.{entry_line, submit_words};
+ghost use Rattle.site_report.specs.Answers.{addition_line, addition_with_bytes, call_line, call_with_bytes};
+ghost use Rattle.site_report.specs.Answers.{entry_line, submit_words};
 ghost use Rattle.std.specs.Prelude.{◌++◌, codes};
 
 use crate::hex_digits::append_entry_digits;

@@ -1,7 +1,7 @@
 use Rattle.std.proofs.Common.{[], ◌∷◌, take, get_or, refl, sym, subst}
 use Rattle.hex.specs.Hex.{encode_with, encode_lower}
 use Rattle.report.proofs.PrintingLemmas.{encode_more, told_ok}
-use Rattle.site_service.proofs.hex_digits.append_digits.Goals as goal
+use Rattle.site_report.proofs.hex_digits.append_digits.Goals as goal
 
 pub loop-byte-init : goal.loop-byte-init
 unfolding encode_with

@@ -1,6 +1,6 @@
 use Rattle.std.proofs.Common.{take}
 use Rattle.hex.specs.Hex.{encode_lower}
-use Rattle.site_service.proofs.hex_digits.append_digits.Given as goal
+use Rattle.site_report.proofs.hex_digits.append_digits.Given as goal
 
 -- the digits of the bytes so far were appended
 abbrev pub invariant-loop-byte : goal.invariant-loop-byte
