@@ -3,7 +3,8 @@
 SETTINGS runs, and to the plain one, and compares all answers, line for line.
 
 An order has strings that sites have submitted, soon or late, once or again, changed or cut, and strings that are none.
-Three sites are given each, some later than others, with calls of their own between, some of them asked again.
+Three sites are given each, some later than others, with calls of their own between, some of them asked again. Every
+other order ends with its drawing, and one more is drawn over the settings that a site dumps then.
 """
 import os
 import random
@@ -49,15 +50,13 @@ STEPS = 120  # lines that a site is asked
 
 
 class Drawn:
-    """An order, and sites that are given it: the lines that each is asked, and what the plain engine answers."""
+    """An order, and sites that are given it: the lines that each is asked, and what the plain engine answers. It goes on
+    from an order that has ended, where one is given."""
 
-    def __init__(self, seed):
-        self.random = random.Random(seed)
-        additions = self.random.random() < 0.8
-        self.settings = f"window {self.random.choice([1, 2, 4, 8, 16])}\ntable 1 8\n"
-        self.settings += "additions\n" if additions else ""
-        self.settings += "".join(f"proc {name} {number} {args} {code}\n" for name, number, args, code in PROCEDURES)
-        self.settings += self.beginning()
+    def __init__(self, seed, ended=None):
+        self.random = random.Random(f"{seed} behind" if ended else seed)
+        self.settings = ended.dumped() if ended else self.drawn_settings()
+        self.before = ended.done() if ended else self.before
         self.sites = [Site(self.settings.encode()) for _ in range(SITES)]
         self.lines, self.answers = ([[] for _ in range(SITES)] for _ in range(2))
         self.order, self.submitted, self.given = [], [], [0] * SITES
@@ -68,6 +67,34 @@ class Drawn:
             while self.given[at] < len(self.order):
                 self.give(at)
             self.ask(at, "rows")
+            self.ask(at, "dump")
+
+    def drawn_settings(self):
+        additions = self.random.random() < 0.8
+        settings = f"window {self.random.choice([1, 2, 4, 8, 16])}\ntable 1 8\n"
+        settings += "additions\n" if additions else ""
+        settings += "".join(f"proc {name} {number} {args} {code}\n" for name, number, args, code in PROCEDURES)
+        return settings + self.beginning()
+
+    def dumped(self):
+        """Returns the settings that a site dumped last."""
+        said = answer_of(self.sites[0], b"dump")
+        return said[: said.rindex("position ")]
+
+    def done(self):
+        """Returns the pairs that were done before an order that goes on from here: those of the settings that go on, and
+        where sessions' numbers only rise, all that were done in this order or before it."""
+        told = {(session, last[0]) for session, last in self.sites[0].sessions.items() if last[0] > 0}
+        return told if self.sites[0].origin is None else told | self.before | {it[1] for it in self.committed()} - {(0, 0)}
+
+    def committed(self):
+        """Returns the positions at which calls committed, with pair, procedure and arguments, and the snapshot."""
+        found = []
+        for d, writes in enumerate(self.sites[0].writes, 1):
+            if writes:
+                _, pair, of, args, snapshot = self.sites[0].head(self.order[d - 1])
+                found.append((d, pair, of, args, snapshot))
+        return found
 
     def beginning(self):
         """Returns lines of rows and of requests that were done before, or none."""
@@ -78,7 +105,7 @@ class Drawn:
         lines = [f"row 1 {key} {words(self.random.randrange(100))}\n" for key in rows]
         if self.random.random() < 0.5:
             lines.append(f"origin {self.random.choice([0, 5, 5, LAST_KEY - 9])} {self.random.choice([0, 1, 4]) + max(sessions, default=0)}\n")
-        lines += [f"request {s} {q} {self.random.randrange(100)} 1 -\n" for s, q in requests]
+        lines += [f"request {s} {q} {self.random.randrange(100)} {self.random.randrange(3)} {self.random.choice(['-', '0aFF'])}\n" for s, q in requests]
         return "".join(lines)
 
     def ask(self, at, line):
@@ -113,10 +140,7 @@ class Drawn:
         """Returns a commit that can't be: of a pair that was done, of a session that has gone on, or one that an answer had
         ruled out: behind it, of the same call, on rows that aren't newer."""
         committed = []
-        for d, writes in enumerate(self.sites[0].writes, 1):
-            if not writes:
-                continue
-            _, *asked, snapshot = self.sites[0].head(self.order[d - 1])
+        for d, *asked, snapshot in self.committed():
             if asked[0] in [*self.before, *committed]:
                 return f"{asked} was done before, and commits at {d}"
             session, sequence = asked[0]
@@ -137,7 +161,7 @@ class Drawn:
         elif chosen < 0.92:
             self.ask(at, self.addition())
         elif chosen < 0.96:
-            self.ask(at, self.random.choice(["rows", "position", "", "# a comment", self.scan()]))
+            self.ask(at, self.random.choice(["rows", "position", "dump", "", "# a comment", self.scan()]))
         else:
             self.ask(at, self.random.choice(FAULTS))
 
@@ -214,14 +238,17 @@ def answers_of(command, drawn, at, folder):
 def compare(command, seed, folder):
     """Returns the first line that is answered differently, with both answers, or what an answer had ruled out, or None;
     and the answers."""
-    drawn = Drawn(seed)
-    for at in range(SITES):
-        found, expected = answers_of(command, drawn, at, folder), drawn.answers[at]
-        for n, (one, other) in enumerate(zip(found + [""] * len(expected), expected + [""] * len(found))):
-            if one != other:
-                return f"order {seed}, site {at + 1}, answer {n + 1}: {one!r}, and plainly {other!r}", []
-    lie = drawn.lie()
-    return lie and f"order {seed}: {lie}", sum(drawn.answers, [])
+    chain = [Drawn(seed)]
+    chain += [Drawn(seed, chain[0])] if seed % 2 else []
+    for link, drawn in enumerate(chain, 1):
+        for at in range(SITES):
+            found, expected = answers_of(command, drawn, at, folder), drawn.answers[at]
+            for n, (one, other) in enumerate(zip(found + [""] * len(expected), expected + [""] * len(found))):
+                if one != other:
+                    return f"order {seed}.{link}, site {at + 1}, answer {n + 1}: {one!r}, and plainly {other!r}", []
+        if lie := drawn.lie():
+            return f"order {seed}.{link}: {lie}", []
+    return None, [answer for drawn in chain for answers in drawn.answers for answer in answers]
 
 
 def kind_of(answer):

@@ -16,6 +16,7 @@ from machine import Machine
 
 SETTINGS = {"window": 2, "table": 3, "proc": 5, "additions": 1, "row": 4, "request": 6, "origin": 3}  # words of each line
 LONGEST_LINE, LAST, LAST_KEY = 1_048_576, 4_294_967_295, 18_446_744_073_709_551_615
+NOTHING_DONE = (0, 0, 0, b"")
 NUMBER, HEX, NAME = (re.compile(it) for it in ("0|[1-9][0-9]*", "-|([0-9A-Fa-f]{2})+", "[0-9A-Za-z_]{1,32}"))
 
 
@@ -57,7 +58,7 @@ class Site:
         self.rows, self.known = [{}], []  # by position: the rows; and the procedures
         self.writes, self.done = [], {}  # by position: what was written; by pair: who committed, and the reply
         self.before, self.origin = 0, None  # the byte strings before, and N, of an order that opens sessions
-        self.sessions = {}  # by session: its greatest number done
+        self.sessions = {}  # by session: its greatest number done, the reply, and the call's procedure and arguments
         for at, raw in enumerate(settings.split(b"\n"), 1):
             try:
                 self.set(words_of(raw, SETTINGS))
@@ -87,7 +88,8 @@ class Site:
             if self.origin is not None and session > self.origin:
                 raise Fault("L11 Q2")
             self.done[session, sequence] = (0, number(words[3], LAST_KEY))
-            self.sessions[session] = sequence
+            last = (sequence, number(words[3], LAST_KEY), number(words[4], 65535), hex_bytes(words[5]))
+            self.sessions[session] = last if sequence or self.origin is None else NOTHING_DONE
         elif words[:1] == ["origin"]:
             if self.origin is not None or self.done:
                 raise Fault("L5")
@@ -120,7 +122,7 @@ class Site:
             return self.addition(raw), {}, (0, 0), 0
         if self.origin is not None and raw[:2] == b"\0\2" and len(raw) == 18 and self.opened < LAST:
             self.opened += 1
-            self.sessions[self.opened] = 0
+            self.sessions[self.opened] = NOTHING_DONE
             return f"session {self.opened}", {}, (0, 0), 0
         head = self.head(raw)
         if head is None:
@@ -145,7 +147,7 @@ class Site:
             return None
         if pair[0] not in self.sessions:
             return "E7"
-        return "E6" if self.sessions[pair[0]] > pair[1] else None
+        return "E6" if self.sessions[pair[0]][0] > pair[1] else None
 
     def call_item(self, raw, call, pair, of, args, snapshot):
         d = len(self.writes) + 1
@@ -204,7 +206,9 @@ class Site:
         self.writes.append(writes)
         if said.startswith("commit") and pair != (0, 0):
             self.done[pair] = (len(self.writes), reply)
-            self.sessions[pair[0]] = pair[1]
+            _, _, of, args, _ = self.head(raw)
+            last = self.sessions.get(pair[0], NOTHING_DONE)
+            self.sessions[pair[0]] = max(last, (pair[1], reply, of, args), key=lambda it: it[0])
         self.rows.append(rows)
         self.known.append(dict(self.procedures))
         return f"entry {len(self.writes)} {said}"
@@ -249,6 +253,8 @@ class Site:
             return self.entry(hex_bytes(words[1]))
         if words[0] == "position":
             return f"position {len(self.writes)}"
+        if words[0] == "dump":
+            return self.dump()
         if words[0] == "scan":
             return self.scan(number(words[1], 255), number(words[2], LAST_KEY), number(words[3], LAST_KEY), number(words[4], LAST))
         return self.printed(sorted(self.rows[-1].items()))
@@ -261,12 +267,24 @@ class Site:
         found = [it for it in sorted(self.rows[-1].items()) if it[0][0] == table and least <= it[0][1] <= greatest]
         return self.printed(found[:most])
 
+    def dump(self):
+        """Returns the settings of a database that goes on from here, and how many lines they are."""
+        lines = [f"window {self.window}", *(f"table {it} {width}" for it, width in self.widths.items())]
+        lines += ["additions"] * self.additions
+        if self.origin is not None:
+            lines.append(f"origin {self.before + len(self.writes)} {self.opened}")
+        lines += [f"proc {name} {of} {args} {code.hex()}" for name, (of, args, code) in self.procedures.items()]
+        lines += [f"row {table} {key} {row.hex()}" for (table, key), row in sorted(self.rows[-1].items())]
+        for session, (sequence, reply, of, args) in sorted(self.sessions.items()):
+            lines.append(f"request {session} {sequence} {reply} {of} {args.hex() or '-'}")
+        return "\n".join([*lines, f"position {len(self.writes)} lines {len(lines)}"])
+
     def printed(self, rows):
         said = [f"{table:2} {key:20} {row.hex()}\n" for (table, key), row in rows]
         return "".join(said) + f"position {len(self.writes)} rows {len(said)}"
 
 
-LENGTHS = {"call": 5, "add": 5, "entry": 2, "rows": 1, "position": 1, "scan": 5}
+LENGTHS = {"call": 5, "add": 5, "entry": 2, "rows": 1, "position": 1, "scan": 5, "dump": 1}
 
 
 def answer_of(site, raw):

@@ -14,7 +14,7 @@ class Rows(ServerTest):
             process.stdin.write(line + "\n")
             process.stdin.flush()
             found.append(process.stdout.readline().rstrip("\n"))
-            while line == "rows" and not found[-1].startswith("position"):
+            while line in ("rows", "dump") and not found[-1].startswith("position"):
                 found.append(process.stdout.readline().rstrip("\n"))
         rest, said = process.communicate()
         self.assertEqual((rest, said, process.returncode), ("", "", 0))
@@ -116,6 +116,21 @@ class Rows(ServerTest):
         without = settings.replace(request, "request 2 0 0 0 -\n").replace("origin 3 1", "origin 4 2")
         submitted = call(2, 1, 5, 1, 0, 21)
         self.assert_answers([(f"{asked} 1 4", "refused P15"), (f"{asked} 2 1", f"submit {submitted}")], without)
+
+    def test_a_dump_goes_on(self):
+        begins = f"window 4\ntable 1 8\nadditions\norigin 0 0\nproc add 1 16 {ADD}\n"
+        opens, first, third = "0002" + "07" * 16, call(1, 1, 5, 10, 1, 10), call(1, 3, 5, 10, 2, 20)
+        *_, last = self.answers(*(f"entry {it}" for it in (opens, first, third)), "position", settings=begins)
+        self.assertEqual(last, "position 3")
+        found = self.answers(*(f"entry {it}" for it in (opens, first, third)), "dump", settings=begins)[3:]
+        lines = ["window 4", "table 1 8", "additions", "origin 3 1", f"proc add 1 16 {ADD}", f"row 1 5 {words(20)}"]
+        request = f"request 1 3 20 1 {words(5, 10)}"
+        self.assertEqual(found, [*lines, request, "position 3 lines 7"])
+        goes_on = "".join(f"{it}\n" for it in found[:-1])
+        self.assertEqual(self.answers("dump", settings=goes_on), [*lines, request, "position 0 lines 7"])
+        lines[3] = "origin 4 2"
+        found = self.answers(f"entry {opens}", "dump", settings=goes_on)
+        self.assertEqual(found, ["entry 1 session 2", *lines, request, "request 2 0 0 0 -", "position 1 lines 8"])
 
     def test_settings_of_an_order_that_goes_on(self):
         faults = {

@@ -163,6 +163,10 @@ next is waited for; empty lines, and those that begin with #, are not answered.
   scan T LO HI N           the first N rows of table T from key LO to key HI
     position P rows M               behind them, likewise
     refused P16                     no such table
+  dump                     the settings of a database that goes on from here:
+                           window, tables, additions and origin, procedures,
+                           rows, and the last request of each session
+    position P lines N              how far it has come, and how many lines
   position                 how far it has come
     position P
 

@@ -14,7 +14,8 @@ use Rattle.std.specs.FinMap.{empty, empty_of_len, entries, len-entries, entries-
 use Rattle.std.specs.FinMap.Entries.{below_all, by_order}
 use Rattle.schema.proofs.SortedLemmas.{both}
 use Rattle.log_model.specs.Log.{DoneRequest}
-use Rattle.site_model.specs.Sessions.{lasts_of, with_done}
+use Rattle.site_model.specs.declared.origin.Origin.{Origin}
+use Rattle.site_model.specs.Sessions.{lasts_of, told_of, with_done}
 
 module _ {X : Type 0} where
   abbrev pub IsRising : List (ℕ × X) → Type 0
@@ -62,5 +63,5 @@ module _ {X : Type 0} where
   none_is (e ∷ es) none = absurd (cc)
 
 -- one more request that was done
-pub one_more : (done : List DoneRequest) (i : ℕ) (d : DoneRequest) → i < length done → (take (i + 1) done ≡ take i done ++ d ∷ []) → lasts_of (take (i + 1) done) ≡ with_done (lasts_of (take i done)) d
-one_more done i d lt is = ap lasts_of is ∙ fold-append with_done empty (take i done) (d ∷ [])
+pub one_more : (origin : Option Origin) (done : List DoneRequest) (i : ℕ) (d : DoneRequest) → i < length done → (take (i + 1) done ≡ take i done ++ d ∷ []) → lasts_of origin (take (i + 1) done) ≡ with_done (lasts_of origin (take i done)) (told_of origin d)
+one_more origin done i d lt is = ap (lasts_of origin) is ∙ fold-append (λ lasts d. with_done lasts (told_of origin d)) empty (take i done) (d ∷ [])

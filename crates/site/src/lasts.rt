@@ -5,13 +5,13 @@ ghost use Rattle.std.specs.Option.{option_copied};
 ghost use Rattle.std.specs.FinMap.{empty, get};
 ghost use Rattle.log_entry.specs.Head.{head_of};
 ghost use Rattle.site_model.specs.Next.{requests_of};
-ghost use Rattle.site_model.specs.Sessions.{done_by, lasts_of, nothing_done, with_done};
+ghost use Rattle.site_model.specs.Sessions.{done_by, lasts_of, nothing_done, told_of, with_done};
 
 use crate::sessions::is_superseded;
 use catalogue::DoneRequest;
 use log_entry::{EntryHead, head_of};
 use log_model::RequestId;
-use site_model::EntryOutcome;
+use site_model::{EntryOutcome, Origin};
 use std::alloc::{AllocError, Allocator, Global};
 use std::collections::BTreeMap;
 use std::collections::btree_map::Values;
@@ -79,17 +79,33 @@ impl<A: Allocator + Copy> LastRequests<A> {
     }
 }
 
-/// The last requests of those that were done. Their arguments are copied.
+/// What a request that was done before an order of this origin tells of its session. The arguments are copied.
+fn told_of<A: Allocator + Copy, P: Allocator>(
+    alloc: A,
+    origin: Option<Origin>,
+    done: &DoneRequest<P>,
+) -> Result<DoneRequest<A>, AllocError>
+    ensures { IfOk result (λ told. told ≡ told_of origin done.now) }
+{
+    let request = done.request();
+    if origin.is_some() && request.sequence == 0 {
+        return Ok(nothing_done(alloc, request.session));
+    }
+    let args = Vec::from_slice(alloc, done.args())?;
+    Ok(DoneRequest::new(request, done.reply(), done.procedure(), args))
+}
+
+/// The last requests before an order of this origin, of those that were done. Their arguments are copied.
 pub(crate) fn lasts_of<A: Allocator + Copy, P: Allocator>(
     alloc: A,
+    origin: Option<Origin>,
     done: &[DoneRequest<P>],
 ) -> Result<LastRequests<A>, AllocError>
-    ensures { IfOk result (λ lasts. lasts ≡ lasts_of done.now) }
+    ensures { IfOk result (λ lasts. lasts ≡ lasts_of origin done.now) }
 {
     let mut lasts = LastRequests::new(alloc);
     for one in done {
-        let args = Vec::from_slice(alloc, one.args())?;
-        lasts.note(DoneRequest::new(one.request(), one.reply(), one.procedure(), args))?;
+        lasts.note(told_of(alloc, origin, one)?)?;
     }
     Ok(lasts)
 }

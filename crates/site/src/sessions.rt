@@ -53,14 +53,15 @@ pub(crate) fn is_superseded<A: Allocator>(last: Option<&DoneRequest<A>>, request
 }
 
 impl<A: Allocator + Copy> Sessions<A> {
-    /// The sessions before an order, by the requests that were done before. Their arguments are copied.
+    /// The sessions before an order of this origin, by the requests that were done before. Their arguments are copied.
     pub(crate) fn before<P: Allocator>(
         alloc: A,
+        origin: Option<Origin>,
         done: &[DoneRequest<P>],
     ) -> Result<Sessions<A>, AllocError>
-        ensures { IfOk result (λ s. s ≡ record { opened = 0; lasts = lasts_of done.now }) }
+        ensures { IfOk result (λ s. s ≡ record { opened = 0; lasts = lasts_of origin done.now }) }
     {
-        let lasts = lasts_of(alloc, done)?;
+        let lasts = lasts_of(alloc, origin, done)?;
         Ok(Sessions { opened: 0, lasts })
     }
 

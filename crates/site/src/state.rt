@@ -61,7 +61,7 @@ impl<A: Allocator + Copy> SiteReplica<A> {
     pub fn new(alloc: A, settings: SiteSettings<A>) -> Result<SiteReplica<A>, AllocError>
         ensures stands { IfOk result (λ s. StandsForLog s []) }
         ensures sessions { IfOk result (λ s. s.sessions
-            ≡ record { opened = 0; lasts = lasts_of settings.catalogue.requests }) }
+            ≡ record { opened = 0; lasts = lasts_of settings.origin settings.catalogue.requests }) }
         ensures setting { IfOk result (λ s. setting_of s ≡ site_setting settings) }
     {
         let SiteSettings {
@@ -73,7 +73,7 @@ impl<A: Allocator + Copy> SiteReplica<A> {
         } = settings;
         catalogues_are_safe(&catalogue);
         let replica = Replica::new(alloc, window, &catalogue)?;
-        let sessions = Sessions::before(alloc, catalogue.requests().requests())?;
+        let sessions = Sessions::before(alloc, origin, catalogue.requests().requests())?;
         Ok(SiteReplica {
             alloc,
             catalogue,

@@ -2,9 +2,9 @@ pub mod LogLemmas
 mod SettledLemmas
 mod RefusedLemmas
 mod OwnLemmas
-mod SessionLemmas
+pub mod SessionLemmas
 mod DecodingLemmas
-mod OutcomeLemmas
+pub mod OutcomeLemmas
 mod OrderFitLemmas
 mod ProcedureLemmas
 mod SerialLemmas

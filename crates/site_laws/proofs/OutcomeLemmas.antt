@@ -14,7 +14,7 @@ use Rattle.site_model.specs.declared.cause.NothingCause.TheVariants as cause
 use Rattle.site_model.specs.declared.outcome.EntryOutcome.{EntryOutcome}
 use Rattle.site_model.specs.declared.outcome.EntryOutcome.TheVariants as outcome
 use Rattle.site_model.specs.Sessions.{Sessions, session_cause, session_opened}
-use Rattle.site_model.specs.Standing.{SiteSetting, Standing, StandsAs, IsDecided, OpensSession, IsNothing, addition_standing, checked_standing, executed, standing}
+use Rattle.site_model.specs.Standing.{SiteSetting, Standing, StandsAs, IsDecided, OpensSession, IsNothing, addition_standing, checked_standing, executed, is_decided, standing}
 use Rattle.site_model.specs.Order.{replies_to, committed_outcome, entry_of_none, entry_standing, next_entry, outcome_behind, outcome_by, outcome_of, with_bytes}
 use Rattle.site_model.specs.Answer.{stored_as}
 use Rattle.site_model.proofs.StandingLemmas.{addition_cases, call_cases, stands_as_addition, stands_as_call, standing_cases}
@@ -118,6 +118,29 @@ module _ (s : SiteSetting) (known : Sessions) (entries : List Entry) (bytes : Li
 
       Commits : Standing → Type 0
       Commits st = outcome_of (replies_to s all bytes) st v ≡ outcome.Committed reply → (call : Call) × (told : ℕ) × CommitsAs s known entries bytes call told
+
+  -- what commits was neither repeated nor stale
+  pub undecided_from : (call : Call) (told reply : ℕ) → head_of bytes ≡ Some (CallHead call told) → outcome_behind s known entries bytes ≡ outcome.Committed reply → is_decided s.setting (items_of entries) call ≡ false
+  undecided_from call told reply head commits =
+      call_cases Undecided s known log call bytes (λ c e. absurd cc) (λ _ _ _ e. absurd (never_stale v e)) (λ well e. well.undecided)
+      (sym (ap (λ (st : Standing). outcome_of (replies_to s all bytes) st v) (stands_as_call s known log bytes call told head)) ∙ commits)
+    where
+      log : Log
+      log = items_of entries
+
+      v : Option Verdict
+      v = verdict_of s.setting (items_of all) (length entries + 1)
+
+      Undecided : Standing → Type 0
+      Undecided st = outcome_of (replies_to s all bytes) st v ≡ outcome.Committed reply → is_decided s.setting log call ≡ false
+
+      never_stale : (v : Option Verdict) → outcome_by (replies_to s all bytes) outcome.Stale v ≡ outcome.Committed reply → ⊥
+      never_stale None e = cc
+      never_stale (Some verdict.Commit) e = cc
+      never_stale (Some (verdict.Conflict n)) e = cc
+      never_stale (Some verdict.Stale) e = cc
+      never_stale (Some (verdict.Repeated n)) e = cc
+      never_stale (Some (verdict.Taken i)) e = cc
 
   -- a session that is opened
   pub opened_from : (session : ℕ) → outcome_behind s known entries bytes ≡ outcome.Session session → session_opened s.origin known.opened bytes ≡ Some session

@@ -96,7 +96,7 @@ more_known next s order (bytes ∷ more) =
 -- ---- what stands against a call for its session's sake
 
 -- nothing does only where its session is known
-known_session : (origin : Origin) (known : Sessions) (request : RequestId) → session_cause (Some origin) known (Some request) ≡ None → is_known known request.session ≡ true
+pub known_session : (origin : Origin) (known : Sessions) (request : RequestId) → session_cause (Some origin) known (Some request) ≡ None → is_known known request.session ≡ true
 known_session origin known request none = by_test (is_known known request.session) refl
   where
     by_test : (b : Bool) → is_known known request.session ≡ b → is_known known request.session ≡ true
@@ -170,7 +170,7 @@ past_unknown : (origin : Origin) (known : Sessions) (session : ℕ) → IsPast o
 past_unknown origin known session past = ap (λ (o : Option DoneRequest). is_some o) past.none
 
 -- a call that commits has done its request, and nothing else has
-commits_by : (head : Option Head) (o : EntryOutcome) (done : DoneRequest) → ((session : ℕ) → o ≡ outcome.Session session → ⊥) → done_by o head ≡ Some done → (reply : ℕ) × (o ≡ outcome.Committed reply) × (request_in head ≡ Some done.request)
+pub commits_by : (head : Option Head) (o : EntryOutcome) (done : DoneRequest) → ((session : ℕ) → o ≡ outcome.Session session → ⊥) → done_by o head ≡ Some done → (reply : ℕ) × (o ≡ outcome.Committed reply) × (request_in head ≡ Some done.request)
 commits_by (Some (CallHead call told)) (outcome.Committed reply) done unopened e = (reply, refl, by_request call.request e)
   where
     by_request : (r : Option RequestId) → option_map (λ request. record { request = request; reply = reply; procedure = call.procedure; args = call.args }) r ≡ Some done → r ≡ Some done.request
@@ -187,7 +187,7 @@ commits_by head (outcome.Taken identifier) done unopened e = absurd cc
 commits_by head (outcome.Nothing cause) done unopened e = absurd cc
 
 -- a session is numbered behind those that were opened before
-opens_behind : (origin : Origin) (opened : ℕ) (bytes : List ℕ) (session : ℕ) → session_opened (Some origin) opened bytes ≡ Some session → session ≡ origin.sessions + opened + 1
+pub opens_behind : (origin : Origin) (opened : ℕ) (bytes : List ℕ) (session : ℕ) → session_opened (Some origin) opened bytes ≡ Some session → session ≡ origin.sessions + opened + 1
 opens_behind origin opened bytes session = by_test (is_opening bytes && nat_lt (origin.sessions + opened + 1) (2 ^ 32))
   where
     by_test : (b : Bool) → cond b (Some (origin.sessions + opened + 1)) None ≡ Some session → session ≡ origin.sessions + opened + 1

@@ -115,7 +115,7 @@ followed_by s f bytes = record {
 
 abbrev pub before_order : SiteSetting → Followed
 before_order s =
-    record { entries = []; sessions = record { opened = 0; lasts = lasts_of s.setting.beginning.requests } }
+    record { entries = []; sessions = record { opened = 0; lasts = lasts_of s.origin s.setting.beginning.requests } }
 
 unfoldable pub followed : SiteSetting → Order → Followed
 followed s order = fold (followed_by s) (before_order s) order

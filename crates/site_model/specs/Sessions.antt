@@ -34,13 +34,18 @@ abbrev pub with_done_if : LastRequests → Option DoneRequest → LastRequests
 with_done_if lasts None = lasts
 with_done_if lasts (Some done) = with_done lasts done
 
--- before an order, by the requests that were done before
-abbrev pub lasts_of : List DoneRequest → LastRequests
-lasts_of done = fold with_done empty done
-
 -- a session that has done nothing: its last request is one of number 0, which no call carries
 abbrev pub nothing_done : ℕ → DoneRequest
 nothing_done session = record { request = record { session = session; sequence = 0 }; reply = 0; procedure = 0; args = [] }
+
+-- what is told of a session before an order: of one that opens sessions number 0 tells that it has done nothing
+abbrev pub told_of : Option Origin → DoneRequest → DoneRequest
+told_of None done = done
+told_of (Some origin) done = if done.request.sequence == 0 then nothing_done done.request.session else done
+
+-- before an order, by the requests that were done before
+abbrev pub lasts_of : Option Origin → List DoneRequest → LastRequests
+lasts_of origin done = fold (λ lasts d. with_done lasts (told_of origin d)) empty done
 
 -- what a byte string has done of a session, by its outcome: it opens the session, or is a call with a request that commits
 abbrev pub done_by : EntryOutcome → Option Head → Option DoneRequest

@@ -28,7 +28,7 @@ pub fn orders_grow()
 #[tactic(auto, unfolding(crate::specs::Order::followed))]
 pub fn sessions_go_on()
     ensures first { (s : SiteSetting) → sessions_after s []
-        ≡ record { opened = 0; lasts = lasts_of s.setting.beginning.requests } }
+        ≡ record { opened = 0; lasts = lasts_of s.origin s.setting.beginning.requests } }
     ensures next { (s : SiteSetting) (order : Order) (bytes : List ℕ) → sessions_after s (order ++ bytes ∷ [])
         ≡ sessions_with (sessions_after s order) bytes (next_outcome s order bytes) }
     ensures count { (s : SiteSetting) (order : Order) → (sessions_after s order).opened ≤ length order }

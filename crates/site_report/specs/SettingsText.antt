@@ -37,17 +37,25 @@ additions_line = codes "additions\n"
 abbrev pub origin_line : Origin → List ℕ
 origin_line origin = codes "origin" ++ next_number origin.strings ++ next_number origin.sessions ++ codes "\n"
 
+abbrev pub procedure_numbers : StoredProcedure → List ℕ
+procedure_numbers p = next_number p.number ++ next_number p.args_len
+
 abbrev pub procedure_line : StoredProcedure → List ℕ
-procedure_line p =
-    codes "proc " ++ p.name ++ next_number p.number ++ next_number p.args_len ++ last_field (spelling p.program)
+procedure_line p = codes "proc " ++ p.name ++ procedure_numbers p ++ last_field (spelling p.program)
+
+abbrev pub row_numbers : Key → List ℕ
+row_numbers key = codes "row" ++ next_number key.0 ++ next_number key.1
 
 abbrev pub row_setting_line : (Key × List ℕ) → List ℕ
-row_setting_line row = codes "row" ++ next_number row.0.0 ++ next_number row.0.1 ++ last_field row.1
+row_setting_line row = row_numbers row.0 ++ last_field row.1
+
+abbrev pub request_numbers : DoneRequest → List ℕ
+request_numbers d =
+    codes "request" ++ next_number d.request.session ++ next_number d.request.sequence ++ next_number d.reply
+    ++ next_number d.procedure
 
 abbrev pub request_line : DoneRequest → List ℕ
-request_line d =
-    codes "request" ++ next_number d.request.session ++ next_number d.request.sequence ++ next_number d.reply
-    ++ next_number d.procedure ++ last_field d.args
+request_line d = request_numbers d ++ last_field d.args
 
 -- ---- all lines of settings
 

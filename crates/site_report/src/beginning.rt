@@ -1,9 +1,10 @@
 //! The lines of settings of what a database begins with: procedures, rows and requests.
 
-ghost use Rattle.std.specs.Prelude.{◌≡◌, ◌<◌, ◌^◌, length, map};
+ghost use Rattle.std.specs.Prelude.{◌≡◌, ◌<◌, ◌^◌, ◌++◌, length, map};
 ghost use Rattle.std.specs.List.{concat};
 ghost use Rattle.catalogue.specs.Stored.{stored, stored_procedures};
-ghost use Rattle.site_report.specs.SettingsText.{last_field, procedure_line, request_line, row_setting_line};
+ghost use Rattle.site_report.specs.SettingsText.{hex_field, last_field, next_number, procedure_line, request_line};
+ghost use Rattle.site_report.specs.SettingsText.{request_numbers, row_numbers, row_setting_line};
 ghost use Rattle.bpf_bytes.specs.Spelling.{spelling};
 
 use crate::hex_digits::{append_code_digits, append_digits};
@@ -17,16 +18,23 @@ use row_sets::Row;
 use std::alloc::Allocator;
 use std::collections::btree_map::Values;
 
-/// Appends bytes in hex as the last field of a line, or `-` where there are none.
+/// Appends bytes in hex, or `-` where there are none.
+fn append_hex_field<S: ByteSink>(sink: &mut S, bytes: &[u8])
+    ensures { S.appends sink.old sink.new (hex_field bytes.now) }
+{
+    if bytes.is_empty() {
+        sink.append(b"-");
+        return;
+    }
+    append_digits(sink, bytes);
+}
+
+/// Appends bytes in hex as the last field of a line.
 fn append_last_field<S: ByteSink>(sink: &mut S, bytes: &[u8])
     ensures { S.appends sink.old sink.new (last_field bytes.now) }
 {
     sink.append(b" ");
-    if bytes.is_empty() {
-        sink.append(b"-");
-    } else {
-        append_digits(sink, bytes);
-    }
+    append_hex_field(sink, bytes);
     sink.append(b"\n");
 }
 
@@ -36,8 +44,8 @@ pub fn append_procedure_lines<A: Allocator, P: Allocator, S: ByteSink>(
     procedures: ListedProcedures<'_, A, P>,
 ) -> u64
     requires few { length procedures < 2 ^ 63 }
-    ensures text { S.appends sink.old sink.new (concat (map procedure_line (stored_procedures procedures))) }
-    ensures count { result ≡ length procedures }
+    ensures text { S.appends sink.old sink.new (concat (map procedure_line (stored_procedures procedures.entry))) }
+    ensures count { result ≡ length procedures.entry }
 {
     let mut count = 0;
     for procedure in procedures {
@@ -50,31 +58,45 @@ pub fn append_procedure_lines<A: Allocator, P: Allocator, S: ByteSink>(
 /// Appends the line of a procedure.
 fn append_procedure_line<P: Allocator, S: ByteSink>(sink: &mut S, procedure: ListedProcedure<'_, P>)
     ensures { S.appends sink.old sink.new (procedure_line (stored (record {
-      name = procedure.name.now;
-      number = procedure.number;
-      accepted = procedure.accepted.now;
+      name = procedure.entry.name.now;
+      number = procedure.entry.number;
+      accepted = procedure.entry.accepted.now;
     }))) }
 {
     sink.append(b"proc ");
     sink.append(procedure.name);
-    let mut words = LineBuffer::new();
-    push_number(&mut words, u64::from(procedure.number));
-    push_number(&mut words, u64::from(procedure.accepted.args_len()));
-    sink.append(&words);
+    append_numbers(sink, procedure.number, procedure.accepted.args_len());
     append_last_code(sink, procedure.accepted.code());
 }
 
-/// Appends the bytes of a program in hex as the last field of a line, or `-` where there are none.
+/// Appends the number of a procedure and the length of its arguments.
+fn append_numbers<S: ByteSink>(sink: &mut S, number: u16, args_len: u16)
+    ensures { S.appends sink.old sink.new (next_number number ++ next_number args_len) }
+{
+    let mut words = LineBuffer::new();
+    push_number(&mut words, u64::from(number));
+    push_number(&mut words, u64::from(args_len));
+    sink.append(&words);
+}
+
+/// Appends the bytes of a program in hex as the last field of a line.
 fn append_last_code<A: Allocator, S: ByteSink>(sink: &mut S, code: &Code<A>)
     ensures { S.appends sink.old sink.new (last_field (spelling code.now)) }
 {
     sink.append(b" ");
+    append_code_field(sink, code);
+    sink.append(b"\n");
+}
+
+/// Appends the bytes of a program in hex, or `-` where there are none.
+fn append_code_field<A: Allocator, S: ByteSink>(sink: &mut S, code: &Code<A>)
+    ensures { S.appends sink.old sink.new (hex_field (spelling code.now)) }
+{
     if byte_length(code) == 0 {
         sink.append(b"-");
-    } else {
-        append_code_digits(sink, code);
+        return;
     }
-    sink.append(b"\n");
+    append_code_digits(sink, code);
 }
 
 /// Appends the lines of rows. Takes no memory.
@@ -90,12 +112,19 @@ pub fn append_row_settings<A: Allocator, S: ByteSink>(sink: &mut S, rows: &[Row<
 fn append_row_setting<A: Allocator, S: ByteSink>(sink: &mut S, row: &Row<A>)
     ensures { S.appends sink.old sink.new (row_setting_line row.now) }
 {
+    append_row_numbers(sink, row.table(), row.key());
+    append_last_field(sink, row.bytes());
+}
+
+/// Appends the line of a row up to its bytes.
+fn append_row_numbers<S: ByteSink>(sink: &mut S, table: u8, key: u64)
+    ensures { S.appends sink.old sink.new (row_numbers (table, key)) }
+{
     let mut words = LineBuffer::new();
     push(&mut words, b"row");
-    push_number(&mut words, u64::from(row.table()));
-    push_number(&mut words, row.key());
+    push_number(&mut words, u64::from(table));
+    push_number(&mut words, key);
     sink.append(&words);
-    append_last_field(sink, row.bytes());
 }
 
 /// Appends the lines of requests that were done, and returns their number. Takes no memory.
@@ -104,8 +133,8 @@ pub fn append_request_lines<A: Allocator, S: ByteSink>(
     requests: Values<'_, u32, DoneRequest<A>>,
 ) -> u64
     requires few { length requests < 2 ^ 63 }
-    ensures text { S.appends sink.old sink.new (concat (map request_line requests)) }
-    ensures count { result ≡ length requests }
+    ensures text { S.appends sink.old sink.new (concat (map request_line requests.entry)) }
+    ensures count { result ≡ length requests.entry }
 {
     let mut count = 0;
     for request in requests {
@@ -119,6 +148,14 @@ pub fn append_request_lines<A: Allocator, S: ByteSink>(
 fn append_request_line<A: Allocator, S: ByteSink>(sink: &mut S, done: &DoneRequest<A>)
     ensures { S.appends sink.old sink.new (request_line done.now) }
 {
+    append_request_numbers(sink, done);
+    append_last_field(sink, done.args());
+}
+
+/// Appends the line of a request that was done up to its arguments.
+fn append_request_numbers<A: Allocator, S: ByteSink>(sink: &mut S, done: &DoneRequest<A>)
+    ensures { S.appends sink.old sink.new (request_numbers done.now) }
+{
     let request = done.request();
     let mut words = LineBuffer::new();
     push(&mut words, b"request");
@@ -127,5 +164,4 @@ fn append_request_line<A: Allocator, S: ByteSink>(sink: &mut S, done: &DoneReque
     push_number(&mut words, done.reply());
     push_number(&mut words, u64::from(done.procedure()));
     sink.append(&words);
-    append_last_field(sink, done.args());
 }

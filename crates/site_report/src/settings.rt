@@ -23,19 +23,19 @@ pub fn append_window_line<S: ByteSink>(sink: &mut S, window: u32)
 pub fn append_table_lines<S: ByteSink>(sink: &mut S, tables: &[(u8, u16)])
     ensures { S.appends sink.old sink.new (concat (map table_line tables.now)) }
 {
-    for (table, width) in tables {
-        append_table_line(sink, *table, *width);
+    for table in tables {
+        append_table_line(sink, table);
     }
 }
 
 /// Appends the line of a table.
-fn append_table_line<S: ByteSink>(sink: &mut S, table: u8, width: u16)
-    ensures { S.appends sink.old sink.new (table_line (table, width)) }
+fn append_table_line<S: ByteSink>(sink: &mut S, table: &(u8, u16))
+    ensures { S.appends sink.old sink.new (table_line table.now) }
 {
     let mut words = LineBuffer::new();
     push(&mut words, b"table");
-    push_number(&mut words, u64::from(table));
-    push_number(&mut words, u64::from(width));
+    push_number(&mut words, u64::from(table.0));
+    push_number(&mut words, u64::from(table.1));
     push(&mut words, b"\n");
     sink.append(&words);
 }

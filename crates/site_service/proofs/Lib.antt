@@ -4,3 +4,4 @@ mod EndLemmas
 mod ScanLemmas
 mod ReadingLemmas
 mod AnswerLemmas
+mod DumpLemmas

@@ -252,6 +252,72 @@ const SCANNED_AGAIN: Story = Story {
     ],
 };
 
+/// A dump gives the settings of a database that goes on. The tables stand in the order of the settings, and a session
+/// that has done nothing has no reply.
+const DUMPED: Story = Story {
+    settings: &[
+        "window 4",
+        "table 2 4",
+        "table 1 8",
+        "origin 5 3",
+        "request 1 2 7 1 AB",
+        "request 3 0 9 4 CD",
+        "row 1 5 0A00000000000000",
+        TWO,
+        "row 2 9 01020304",
+        "additions",
+    ],
+    lines: &["dump", "entry 000200000000000000000000000000000000", "dump"],
+    answers: &[
+        "window 4",
+        "table 2 4",
+        "table 1 8",
+        "additions",
+        "origin 5 3",
+        TWO,
+        "row 1 5 0a00000000000000",
+        "row 2 9 01020304",
+        "request 1 2 7 1 ab",
+        "request 3 0 0 0 -",
+        "position 0 lines 10",
+        "entry 1 session 4",
+        "window 4",
+        "table 2 4",
+        "table 1 8",
+        "additions",
+        "origin 6 4",
+        TWO,
+        "row 1 5 0a00000000000000",
+        "row 2 9 01020304",
+        "request 1 2 7 1 ab",
+        "request 3 0 0 0 -",
+        "request 4 0 0 0 -",
+        "position 1 lines 11",
+    ],
+};
+
+/// Without an origin a dump tells of each session that has a last request.
+const DUMPED_FIXED: Story = Story {
+    settings: &[
+        "window 4",
+        "table 1 8",
+        ADD,
+        "request 3 0 9 4 CD",
+        "request 7 2 8 1 -",
+    ],
+    lines: &[ENTRY, "dump"],
+    answers: &[
+        COMMITTED,
+        "window 4",
+        "table 1 8",
+        ADD,
+        "row 1 5 0a00000000000000",
+        "request 3 0 9 4 cd",
+        "request 7 2 8 1 -",
+        "position 1 lines 6",
+    ],
+};
+
 /// Faulty lines are answered, and change nothing. Lines that say nothing aren't answered.
 const FAULTY: Story = Story {
     settings: &SETTINGS,
@@ -294,7 +360,7 @@ const FAULTY: Story = Story {
 };
 
 /// Stories of a site.
-pub(crate) fn all_stories() -> [Story; 10] {
+pub(crate) fn all_stories() -> [Story; 12] {
     [
         ONCE,
         CONFLICT,
@@ -305,6 +371,8 @@ pub(crate) fn all_stories() -> [Story; 10] {
         STALE,
         SCANNED,
         SCANNED_AGAIN,
+        DUMPED,
+        DUMPED_FIXED,
         FAULTY,
     ]
 }

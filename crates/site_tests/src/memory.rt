@@ -1,8 +1,9 @@
 //! Sites for which there is no memory: each growth of an answer is refused in turn.
 
+use catalogue::Catalogue;
 use log_model::RequestId;
 use scarce::Scarce;
-use site::{Asked, Site};
+use site::{Asked, Site, SiteSettings};
 use site_model::EntryOutcome;
 use std::alloc::Allocator;
 use std::process::Abort;
@@ -25,16 +26,21 @@ static CALL: [u8; 84] = [
     0, 0, 1, 0, 1, 5, 0, 0, 0, 0, 0, 0, 0, 1, 10, 0, 0, 0, 0, 0, 0, 0,
 ];
 
-/// A site of the sample procedures with a window of 4 that was given nothing, and none where memory is wanting.
+/// A site over a catalogue with a window of 4 that was given nothing, and none where memory is wanting.
+fn site_over<A: Allocator + Copy>(alloc: A, catalogue: Catalogue<A>) -> Option<Site<A>> {
+    let settings = SiteSettings {
+        window: 4,
+        catalogue,
+        table_list: Vec::from_slice(alloc, &TABLES).ok()?,
+        takes_additions: true,
+        origin: None,
+    };
+    Site::new(alloc, settings).ok()
+}
+
+/// A site of the sample procedures, and none where memory is wanting.
 fn site_of<A: Allocator + Copy>(alloc: A) -> Option<Site<A>> {
-    Site::new(
-        alloc,
-        4,
-        catalogue_of(alloc, &TABLES, &PROCEDURES)?,
-        true,
-        None,
-    )
-    .ok()
+    site_over(alloc, catalogue_of(alloc, &TABLES, &PROCEDURES)?)
 }
 
 /// The same with a row and a request that was done before.
@@ -43,7 +49,7 @@ fn site_behind<A: Allocator + Copy>(alloc: A) -> Option<Site<A>> {
     catalogue.put_row(1, 5, &[0; 8]).ok()?;
     let request = ASKED.request?;
     catalogue.put_request(request, 10, 1, ASKED.args).ok()?;
-    Site::new(alloc, 4, catalogue, true, None).ok()
+    site_over(alloc, catalogue)
 }
 
 /// Row and request take memory in the catalogue, and once more at the site.

@@ -5,7 +5,7 @@ use log_model::{CallRefusal, Identifier, RequestId};
 use program_checks::ProgramFault;
 use script::LineFault;
 use site_model::{AdditionAnswer, AdditionRefusal, CallAnswer, EntryOutcome, NothingCause};
-use site_service::{
+use site_report::{
     append_addition_line, append_call_line, append_entry_line, append_fault_line,
     append_no_memory_line, append_order_full_line, append_position_line, append_row_count_line,
 };

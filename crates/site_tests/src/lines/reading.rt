@@ -18,7 +18,7 @@ static BYTES_AND_WORDS: [Faulty; 10] = [
     (b"begin 1 add -", 2),
 ];
 
-static FIELD_COUNTS: [Faulty; 12] = [
+static FIELD_COUNTS: [Faulty; 13] = [
     (b"call add -", 3),
     (b"call add 0 7", 3),
     (b"call add - 7 1 ", 3),
@@ -30,6 +30,7 @@ static FIELD_COUNTS: [Faulty; 12] = [
     (b"rows ", 3),
     (b"scan 1 0 9", 3),
     (b"scan 1 0 9 10 1", 3),
+    (b"dump 1", 3),
     (b"position 1", 3),
 ];
 
@@ -111,7 +112,7 @@ fn given<A: Allocator>(line: &SiteLine<Bytes<A>>) -> Option<Given<'_>> {
             [u32::from(procedure.number), u32::from(procedure.args_len)],
         ),
         SiteLine::Entry { bytes } => (b"", bytes.as_slice(), [0, 0]),
-        SiteLine::Rows | SiteLine::Scan(_) | SiteLine::Position => return None,
+        SiteLine::Rows | SiteLine::Scan(_) | SiteLine::Dump | SiteLine::Position => return None,
     })
 }
 
@@ -129,6 +130,7 @@ fn lines_give_their_fields(rt: HostRuntime) {
         assert!(rt; gives(rt.alloc(), line, expected));
     }
     assert!(rt; matches!(site_line(rt.alloc(), b"rows"), Ok(Some(SiteLine::Rows))));
+    assert!(rt; matches!(site_line(rt.alloc(), b"dump"), Ok(Some(SiteLine::Dump))));
     assert!(rt;
         matches!(
             site_line(rt.alloc(), b"position"),

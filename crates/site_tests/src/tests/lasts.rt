@@ -136,7 +136,8 @@ fn an_order_opens_sessions_and_refuses_what_they_have_passed(rt: HostRuntime) {
     assert_eq!(rt; told, CallAnswer::OutOfSession);
     let short = EntryOutcome::Nothing(NothingCause::Unreadable);
     take(&rt, &mut given, &OPENING[..17], short, None);
-    take(&rt, &mut given, &OPENING, EntryOutcome::Session(7), None);
+    let nothing: Option<Last> = Some((0, 0, 0, &[]));
+    take(&rt, &mut given, &OPENING, EntryOutcome::Session(7), nothing);
     assert_eq!(rt; opened(&rt, &given), 1);
     let third = Some((3, 7, 1, SEVEN.as_slice()));
     let (_, second) = answer_of_seven(&rt, alloc, &given, 2);

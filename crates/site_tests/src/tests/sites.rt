@@ -6,7 +6,7 @@ use catalogue::Catalogue;
 use log_entry::{Entry, NamedProgram, to_bytes};
 use log_model::RequestId;
 use schema::Schema;
-use site::{Asked, Site};
+use site::{Asked, Site, SiteSettings};
 use site_model::{AdditionAnswer, CallAnswer, EntryOutcome, Origin};
 use std::alloc::Global;
 use test_programs::{ADD, bytes_of};
@@ -39,21 +39,38 @@ fn catalogue_of(alloc: Global) -> Option<Catalogue> {
     added.and(Some(catalogue))
 }
 
+/// A site over a catalogue that was given nothing, and `None` where memory is wanting.
+fn site_over(
+    alloc: Global,
+    catalogue: Catalogue,
+    takes_additions: bool,
+    origin: Option<Origin>,
+) -> Option<Site> {
+    let settings = SiteSettings {
+        window: 4,
+        catalogue,
+        table_list: Vec::from_slice(alloc, &[(1, 8)]).ok()?,
+        takes_additions,
+        origin,
+    };
+    Site::new(alloc, settings).ok()
+}
+
 /// A site that was given nothing, and `None` where memory is wanting.
 fn site_of(alloc: Global, takes_additions: bool) -> Option<Site> {
-    Site::new(alloc, 4, catalogue_of(alloc)?, takes_additions, None).ok()
+    site_over(alloc, catalogue_of(alloc)?, takes_additions, None)
 }
 
 /// A site before which a request was done, and `None` where memory is wanting.
 fn site_behind(alloc: Global, request: RequestId, reply: u64) -> Option<Site> {
     let mut catalogue = catalogue_of(alloc)?;
     catalogue.put_request(request, reply, 3, &[1]).ok()?;
-    Site::new(alloc, 4, catalogue, false, None).ok()
+    site_over(alloc, catalogue, false, None)
 }
 
 /// A site that was given nothing of an order that opens sessions, and `None` where memory is wanting.
 fn site_with_sessions(alloc: Global, origin: Origin) -> Option<Site> {
-    Site::new(alloc, 4, catalogue_of(alloc)?, false, Some(origin)).ok()
+    site_over(alloc, catalogue_of(alloc)?, false, Some(origin))
 }
 
 /// Returns the outcome of one more byte string, and the site then. Returns `None` where memory is wanting, or no

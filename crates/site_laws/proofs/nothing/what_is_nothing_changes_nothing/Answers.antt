@@ -1,9 +1,9 @@
 use Rattle.std.proofs.Common.{◌≡◌, ◌≢◌, ℕ, suc, List, [], ◌∷◌, ◌++◌, length, Option, Some, None, refl, sym, ap, subst, ◌∙◌, arith, append_assoc}
 use Rattle.std.specs.Option.{option_map}
 use Rattle.std.proofs.lemmas.List.{length-append}
-use Rattle.log_model.specs.Log.{DoneRequest, done_at, IsLog, history, rows_after}
+use Rattle.log_model.specs.Log.{done_at, IsLog, history, rows_after}
 use Rattle.log_model.specs.Entries.{Entry, items_of}
-use Rattle.log_entry.specs.Head.{Head, CallHead, AdditionHead, head_of}
+use Rattle.log_entry.specs.Head.{head_of}
 use Rattle.site_model.specs.declared.outcome.EntryOutcome.{EntryOutcome}
 use Rattle.site_model.specs.declared.outcome.EntryOutcome.TheVariants as outcome
 use Rattle.site_model.specs.Sessions.{Sessions, done_by, with_done_if}
@@ -20,24 +20,6 @@ not_committed o reply is e = subst ChangesNothing e is
 
 not_added : (o : EntryOutcome) (number : ℕ) → ChangesNothing o → o ≢ outcome.Added number
 not_added o number is e = subst ChangesNothing e is
-
--- no request is done
-none_done : (head : Option Head) (o : EntryOutcome) → ChangesNothing o → done_by head o ≡ None
-none_done head o is = by_outcome o is head
-  where
-    by_outcome : (o : EntryOutcome) → ChangesNothing o → (head : Option Head) → done_by head o ≡ None
-    by_outcome (outcome.Nothing c) is None = refl
-    by_outcome (outcome.Nothing c) is (Some (CallHead call told)) = refl
-    by_outcome (outcome.Nothing c) is (Some (AdditionHead p)) = refl
-    by_outcome (outcome.Session session) is None = refl
-    by_outcome (outcome.Session session) is (Some (CallHead call told)) = refl
-    by_outcome (outcome.Session session) is (Some (AdditionHead p)) = refl
-    by_outcome (outcome.Committed reply) is head = absurd is
-    by_outcome (outcome.Conflict position) is head = absurd is
-    by_outcome outcome.Stale is head = absurd is
-    by_outcome (outcome.Repeated position reply) is head = absurd is
-    by_outcome (outcome.Added number) is head = absurd is
-    by_outcome (outcome.Taken identifier) is head = absurd is
 
 pub returns-clause-rows : goal.returns-clause-rows
 returns-clause-rows c s order bytes is =
@@ -59,9 +41,14 @@ returns-clause-requests c s order bytes request is =
     ∙ request_stays s known es bytes (idle_from s known es bytes c.each_call_has_a_verdict.ensures.within is) log request
 
 pub returns-clause-lasts : goal.returns-clause-lasts
-returns-clause-lasts c s order bytes is =
+returns-clause-lasts c s order bytes cause is =
     ap (λ (known : Sessions). known.lasts) (c.sessions_go_on.ensures.next s order bytes)
-    ∙ ap (λ (done : Option DoneRequest). with_done_if (sessions_after s order).lasts done) (none_done (head_of bytes) (next_outcome s order bytes) is)
+    ∙ ap (λ (o : EntryOutcome). with_done_if (sessions_after s order).lasts (done_by o (head_of bytes))) is
+
+pub returns-clause-opened : goal.returns-clause-opened
+returns-clause-opened c s order bytes session is =
+    ap (λ (known : Sessions). known.lasts) (c.sessions_go_on.ensures.next s order bytes)
+    ∙ ap (λ (o : EntryOutcome). with_done_if (sessions_after s order).lasts (done_by o (head_of bytes))) is
 
 pub returns-clause-conflicts : goal.returns-clause-conflicts
 returns-clause-conflicts c s order between bytes later is conflict =

@@ -5,7 +5,7 @@ use Rattle.site.specs.Replica.{StandsForLog, setting_of}
 use Rattle.site.proofs.site.Site.new.Goals as goal
 
 abbrev first_known : SiteSetting → Sessions
-first_known s = record { opened = 0; lasts = lasts_of s.setting.beginning.requests }
+first_known s = record { opened = 0; lasts = lasts_of s.origin s.setting.beginning.requests }
 
 pub returns-clause-stands : goal.returns-clause-stands
 returns-clause-stands g c = record {
