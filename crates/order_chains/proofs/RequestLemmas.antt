@@ -4,7 +4,7 @@ use Rattle.std.specs.List.{AllByRecursion, fold}
 use Rattle.std.specs.Option.{option_map}
 use Rattle.std.specs.Ordering.{nat_cmp, eq_by_cmp, is_eq}
 use Rattle.std.specs.Cmp.{nat_cmp_total, tied_itself}
-use Rattle.std.specs.FinMap.{empty, get, insert, get-insert, nat_cmp-IsAntisymmetric}
+use Rattle.std.specs.FinMap.{empty, get, insert, get-empty, get-insert, nat_cmp-IsAntisymmetric}
 use Rattle.std.proofs.lemmas.Bool.Decides.{nat_tests}
 use Rattle.std.proofs.lemmas.Map.Views.{tells_apart}
 use Rattle.log_model.specs.declared.request.RequestId.{RequestId}
@@ -96,7 +96,7 @@ told_from origin front (d ∷ rest) lasts told =
         (λ same newest e. subst (IsTold (front ++ d ∷ rest) session) (some_is (told_of origin d) last e) (told_one origin front rest d session same))
 
 told_before : (origin : Option Origin) (all : List DoneRequest) → AreTold all (lasts_of origin all)
-told_before origin all = told_from origin [] all empty (λ session last is. absurd (let none : None ≡ Some last = is in cc))
+told_before origin all = told_from origin [] all empty (λ session last is. absurd (let none : None ≡ Some last = sym (get-empty nat_cmp session) ∙ is in cc))
 
 -- ---- sessions are numbered
 
@@ -298,7 +298,7 @@ module _ (s : SiteSetting) (origin : Origin) (has : s.origin ≡ Some origin) wh
       numbered_later next [] order
       (subst (λ (k : Sessions). IsNumbered (origin.sessions + k.opened) k.lasts) (sym first)
       (λ session last is.
-      let le = numbered_from s.origin origin.sessions s.setting.beginning.requests empty (are origin has) (λ session last is. absurd (let none : None ≡ Some last = is in cc)) session last is in
+      let le = numbered_from s.origin origin.sessions s.setting.beginning.requests empty (are origin has) (λ session last is. absurd (let none : None ≡ Some last = sym (get-empty nat_cmp session) ∙ is in cc)) session last is in
       omega arith))
 
   -- a call that commits has done its request last

@@ -11,7 +11,7 @@ mod SerialLemmas
 mod NothingLemmas
 mod NameLemmas
 mod GrowingLemmas
-mod FinalLemmas
+pub mod FinalLemmas
 mod FreeLemmas
 mod AskedLemmas
 mod AgreementLemmas

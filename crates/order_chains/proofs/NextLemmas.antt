@@ -1,0 +1,198 @@
+-- The setting of a database that goes on tells of each session what it did last.
+use Rattle.std.proofs.Common.{◌≡◌, ℕ, ◌+◌, ◌<◌, ◌≤◌, ◌==◌, Bool, true, false, ◌||◌, cond, List, [], ◌∷◌, ◌++◌, length, map, Option, Some, None, refl, sym, ap, subst, ◌∙◌, arith, append_assoc, append-nil}
+use Rattle.std.specs.Prelude.{T}
+use Rattle.std.specs.List.{AllByRecursion, fold}
+use Rattle.std.specs.Option.{option_map}
+use Rattle.std.specs.declared.cmp.Ordering.{Ordering}
+use Rattle.std.specs.declared.cmp.Ordering.TheVariants.{Less, Equal, Greater}
+use Rattle.std.specs.Ordering.{MatchOrdering, eq_by_cmp, is_eq, is_lt, nat_cmp}
+use Rattle.std.specs.Cmp.{nat_cmp_total, ranks, tied_itself, unsigned_tied}
+use Rattle.std.specs.FinMap.{empty, entries, entries_sorted, find, get, get-empty, get-entries, is_sorted}
+use Rattle.std.specs.FinMap.Entries.{below_all}
+use Rattle.std.proofs.lemmas.Bool.Decides.{nat_tests}
+use Rattle.schema.proofs.SortedLemmas.{first, second}
+use Rattle.log_model.specs.declared.request.RequestId.{RequestId}
+use Rattle.log_model.specs.OpenRequest.{has_zero}
+use Rattle.log_model.specs.Log.{DoneRequest}
+use Rattle.log_model.specs.Entries.{Entry}
+use Rattle.log_entry.specs.Head.{head_of}
+use Rattle.site_model.specs.declared.origin.Origin.{Origin}
+use Rattle.site_model.specs.declared.outcome.EntryOutcome.{EntryOutcome}
+use Rattle.site_model.specs.declared.outcome.EntryOutcome.TheVariants as outcome
+use Rattle.site_model.specs.Sessions.{LastRequests, Sessions, done_by, lasts_of, nothing_done, sessions_with, told_of, with_done, with_done_if}
+use Rattle.site_model.specs.Standing.{SiteSetting}
+use Rattle.site_model.specs.Order.{Order, next_outcome, order_entries, outcome_behind, request_in, sessions_after}
+use Rattle.site_model.specs.Next.{origin_behind, requests_of}
+use Rattle.site_laws.proofs.FinalLemmas.{heads_are_whole}
+use Rattle.site_laws.proofs.OutcomeLemmas.{committed_from}
+use Rattle.site_laws.proofs.SessionLemmas.{SessionsGoOn, commits_by}
+use Rattle.order_chains.specs.GoingOn.{first_lasts}
+use Rattle.order_chains.proofs.RequestLemmas.{last_cases}
+
+-- ---- each entry of a map is found
+
+less_of : (a b : ℕ) → T (is_lt (nat_cmp a b)) → a < b
+less_of a b = by_order (nat_cmp a b) (ranks a b)
+  where
+    by_order : (o : Ordering) → MatchOrdering o (a < b) (a ≡ b) (b < a) → T (is_lt o) → a < b
+    by_order Less is h = is
+    by_order Equal is h = absurd h
+    by_order Greater is h = absurd h
+
+module _ {X : Type 0} where
+  past_first : (e d : ℕ × X) (es : List (ℕ × X)) → T (is_lt (nat_cmp e.0 d.0)) → find nat_cmp d.0 (e ∷ es) ≡ find nat_cmp d.0 es
+  past_first e d es less =
+      let below = less_of e.0 d.0 less in
+      let apart : (d.0 == e.0) ≡ false = grind (arith, nat_tests) in
+      ap (λ (b : Bool). cond b (Some e.1) (find nat_cmp d.0 es)) (unsigned_tied d.0 e.0 ∙ apart)
+
+  all_past : (e : ℕ × X) (ds es : List (ℕ × X)) → T (below_all nat_cmp e.0 ds) → AllByRecursion (λ d. find nat_cmp d.0 es ≡ Some d.1) ds → AllByRecursion (λ d. find nat_cmp d.0 (e ∷ es) ≡ Some d.1) ds
+  all_past e [] es h found = tt
+  all_past e (d ∷ ds) es h found = (past_first e d es (first _ _ h) ∙ found.0, all_past e ds es (second _ _ h) found.1)
+
+  found_all : (es : List (ℕ × X)) → T (is_sorted nat_cmp es) → AllByRecursion (λ d. find nat_cmp d.0 es ≡ Some d.1) es
+  found_all [] h = tt
+  found_all (e ∷ es) h = (
+    ap (λ (o : Ordering). cond (is_eq o) (Some e.1) (find nat_cmp e.0 es)) (tied_itself nat_cmp_total e.0),
+    all_past e es es (first _ _ h) (found_all es (second _ _ h)),
+  )
+
+HasEach : LastRequests → List (ℕ × DoneRequest) → Type 0
+HasEach lasts es = AllByRecursion (λ e. get lasts e.0 ≡ Some e.1) es
+
+has_each : (lasts : LastRequests) → HasEach lasts (entries lasts)
+unfolding HasEach
+has_each lasts = all (entries lasts) (found_all (entries lasts) (entries_sorted lasts))
+  where
+    all : (es : List (ℕ × DoneRequest)) → AllByRecursion (λ d. find nat_cmp d.0 (entries lasts) ≡ Some d.1) es → AllByRecursion (λ e. get lasts e.0 ≡ Some e.1) es
+    all [] found = tt
+    all (e ∷ es) found = (get-entries lasts e.0 ∙ found.0, all es found.1)
+
+-- ---- last requests are as settings tell them
+
+-- each is of its session, and is told as it is
+record IsNormal (origin : Option Origin) (session : ℕ) (last : DoneRequest) : Type 0 where
+  of_session : last.request.session ≡ session
+  told : told_of origin last ≡ last
+
+abbrev AreNormal : Option Origin → LastRequests → Type 0
+AreNormal origin lasts = (session : ℕ) (last : DoneRequest) → get lasts session ≡ Some last → IsNormal origin session last
+
+some_is : (a b : DoneRequest) → Some a ≡ Some b → a ≡ b
+some_is a b e = cc
+
+same_both : {X : Type 0} (b : Bool) (x : X) → cond b x x ≡ x
+same_both true x = refl
+same_both false x = refl
+
+told_nothing : (origin : Option Origin) (session : ℕ) → told_of origin (nothing_done session) ≡ nothing_done session
+told_nothing None session = refl
+told_nothing (Some origin) session = same_both (0 == 0) (nothing_done session)
+
+told_something : (origin : Option Origin) (d : DoneRequest) → (d.request.sequence == 0) ≡ false → told_of origin d ≡ d
+told_something None d e = refl
+told_something (Some origin) d e = ap (λ (b : Bool). cond b (nothing_done d.request.session) d) e
+
+told_again : (origin : Option Origin) (d : DoneRequest) → told_of origin (told_of origin d) ≡ told_of origin d
+told_again None d = refl
+told_again (Some origin) d = by_test (d.request.sequence == 0) refl
+  where
+    by_test : (b : Bool) → (d.request.sequence == 0) ≡ b → told_of (Some origin) (cond b (nothing_done d.request.session) d) ≡ cond b (nothing_done d.request.session) d
+    by_test true e = told_nothing (Some origin) d.request.session
+    by_test false e = told_something (Some origin) d e
+
+normal_from : (origin : Option Origin) (rest : List DoneRequest) (lasts : LastRequests) → AreNormal origin lasts → AreNormal origin (fold (λ lasts d. with_done lasts (told_of origin d)) lasts rest)
+normal_from origin [] lasts is = is
+normal_from origin (d ∷ rest) lasts is = normal_from origin rest (with_done lasts (told_of origin d)) (λ session last.
+    last_cases lasts (told_of origin d) session (λ o. o ≡ Some last → IsNormal origin session last) (is session last)
+    (λ same newest e. subst (IsNormal origin session) (some_is (told_of origin d) last e) (record { of_session = sym same; told = told_again origin d })))
+
+module _ (s : SiteSetting) where
+  normal_next : (known : Sessions) (entries : List Entry) (bytes : List ℕ) → AreNormal s.origin known.lasts
+      → (o : EntryOutcome) → outcome_behind s known entries bytes ≡ o → AreNormal s.origin (with_done_if known.lasts (done_by o (head_of bytes)))
+  normal_next known entries bytes is (outcome.Session opened) e = λ session last.
+      last_cases known.lasts (nothing_done opened) session (λ o. o ≡ Some last → IsNormal s.origin session last) (is session last)
+      (λ same newest found. subst (IsNormal s.origin session) (some_is (nothing_done opened) last found) (record { of_session = sym same; told = told_nothing s.origin opened }))
+  normal_next known entries bytes is (outcome.Committed reply) e = by_done (done_by (outcome.Committed reply) (head_of bytes)) refl
+    where
+      unopened : (opened : ℕ) → outcome_behind s known entries bytes ≡ outcome.Session opened → ⊥
+      unopened opened x = let bad : outcome.Committed reply ≡ outcome.Session opened = sym e ∙ x in cc
+
+      no_zero : (r : Option RequestId) (request : RequestId) → r ≡ Some request → has_zero r ≡ false → (request.sequence == 0) ≡ false
+      no_zero r request same whole = by_session (request.session == 0) (sym (ap has_zero same) ∙ whole)
+        where
+          by_session : (b : Bool) → (b || (request.sequence == 0)) ≡ false → (request.sequence == 0) ≡ false
+          by_session true z = absurd cc
+          by_session false z = z
+
+      by_done : (o : Option DoneRequest) → done_by (outcome.Committed reply) (head_of bytes) ≡ o → AreNormal s.origin (with_done_if known.lasts o)
+      by_done None x = is
+      by_done (Some done) x = λ session last.
+          last_cases known.lasts done session (λ o. o ≡ Some last → IsNormal s.origin session last) (is session last)
+          (λ same newest found.
+          let (replied, commits, carries) = commits_by (head_of bytes) (outcome_behind s known entries bytes) done unopened (ap (λ (o : EntryOutcome). done_by o (head_of bytes)) e ∙ x) in
+          let (call, told, stands) = committed_from s known entries bytes replied commits in
+          let some = no_zero call.request done.request (sym (ap request_in stands.head) ∙ carries) (heads_are_whole bytes call told stands.head) in
+          subst (IsNormal s.origin session) (some_is done last found) (record { of_session = sym same; told = told_something s.origin done some }))
+  normal_next known entries bytes is (outcome.Conflict position) e = is
+  normal_next known entries bytes is outcome.Stale e = is
+  normal_next known entries bytes is (outcome.Repeated position reply) e = is
+  normal_next known entries bytes is (outcome.Added number) e = is
+  normal_next known entries bytes is (outcome.Taken identifier) e = is
+  normal_next known entries bytes is (outcome.Nothing cause) e = is
+
+  normal_later : SessionsGoOn → (order more : Order) → AreNormal s.origin (sessions_after s order).lasts → AreNormal s.origin (sessions_after s (order ++ more)).lasts
+  normal_later next order [] is = subst (λ (o : Order). AreNormal s.origin (sessions_after s o).lasts) (sym (append-nil order)) is
+  normal_later next order (bytes ∷ more) is =
+      subst (λ (o : Order). AreNormal s.origin (sessions_after s o).lasts) (append_assoc order (bytes ∷ []) more)
+      (normal_later next (order ++ bytes ∷ []) more
+      (subst (λ (k : Sessions). AreNormal s.origin k.lasts) (sym (next s order bytes)) (normal_next (sessions_after s order) (order_entries s order) bytes is (next_outcome s order bytes) refl)))
+
+  all_normal : SessionsGoOn → sessions_after s [] ≡ record { opened = 0; lasts = first_lasts s } → (order : Order) → AreNormal s.origin (sessions_after s order).lasts
+  all_normal next at_first order =
+      normal_later next [] order
+      (subst (λ (k : Sessions). AreNormal s.origin k.lasts) (sym at_first)
+      (normal_from s.origin s.setting.beginning.requests empty (λ session last is. absurd (let none : None ≡ Some last = sym (get-empty nat_cmp session) ∙ is in cc))))
+
+-- ---- what is told of them is read back
+
+told_same : (origin : Option Origin) (f : Origin → Origin) (d : DoneRequest) → told_of (option_map f origin) d ≡ told_of origin d
+told_same None f d = refl
+told_same (Some origin) f d = refl
+
+module _ (origin : Option Origin) (lasts : LastRequests) (normal : AreNormal origin lasts) where
+  abbrev Within : LastRequests → Type 0
+  Within some = (session : ℕ) (last : DoneRequest) → get some session ≡ Some last → get lasts session ≡ Some last
+
+  within_from : (es : List (ℕ × DoneRequest)) (some : LastRequests) → HasEach lasts es → Within some → Within (fold (λ lasts d. with_done lasts (told_of origin d)) some (map (λ e. e.1) es))
+  unfolding HasEach
+  within_from [] some has is = is
+  within_from (e ∷ es) some has is = within_from es (with_done some (told_of origin e.1)) has.1 (λ session last.
+      last_cases some (told_of origin e.1) session (λ o. o ≡ Some last → get lasts session ≡ Some last) (is session last)
+      (λ same newest found.
+      let n = normal e.0 e.1 has.0 in
+      ap (get lasts) (same ∙ ap (λ (d : DoneRequest). d.request.session) n.told ∙ n.of_session) ∙ has.0 ∙ sym (ap Some n.told) ∙ found))
+
+  read_back : Within (lasts_of origin (requests_of lasts))
+  read_back = within_from (entries lasts) empty (has_each lasts) (λ session last is. absurd (let none : None ≡ Some last = sym (get-empty nat_cmp session) ∙ is in cc))
+
+  numbered_each : (most : ℕ) → ((session : ℕ) (last : DoneRequest) → get lasts session ≡ Some last → session ≤ most) → (es : List (ℕ × DoneRequest)) → HasEach lasts es → AllByRecursion (λ d. d.request.session ≤ most) (map (λ e. e.1) es)
+  unfolding HasEach
+  numbered_each most few [] has = tt
+  numbered_each most few (e ∷ es) has =
+      let of_session = (normal e.0 e.1 has.0).of_session in
+      let le = few e.0 e.1 has.0 in
+      (omega (arith, of_session, le), numbered_each most few es has.1)
+
+-- the last requests of settings whose origin is made of another's
+pub told_back : SessionsGoOn → (s : SiteSetting) → sessions_after s [] ≡ record { opened = 0; lasts = first_lasts s } → (order : Order) (f : Origin → Origin)
+    → (session : ℕ) (last : DoneRequest) → get (lasts_of (option_map f s.origin) (requests_of (sessions_after s order).lasts)) session ≡ Some last → get (sessions_after s order).lasts session ≡ Some last
+told_back next s at_first order f =
+    read_back (option_map f s.origin) (sessions_after s order).lasts (λ session last is.
+    let n = all_normal s next at_first order session last is in
+    record { of_session = n.of_session; told = told_same s.origin f last ∙ n.told })
+
+pub numbered_requests : SessionsGoOn → (s : SiteSetting) → sessions_after s [] ≡ record { opened = 0; lasts = first_lasts s } → (order : Order) (most : ℕ)
+    → ((session : ℕ) (last : DoneRequest) → get (sessions_after s order).lasts session ≡ Some last → session ≤ most) → AllByRecursion (λ d. d.request.session ≤ most) (requests_of (sessions_after s order).lasts)
+numbered_requests next s at_first order most few =
+    numbered_each s.origin (sessions_after s order).lasts (all_normal s next at_first order) most few (entries (sessions_after s order).lasts) (has_each (sessions_after s order).lasts)
