@@ -25,7 +25,7 @@ use Rattle.site_model.specs.Order.{Order, next_outcome, order_entries, outcome_b
 use Rattle.site_model.specs.Next.{origin_behind, requests_of}
 use Rattle.site_laws.proofs.FinalLemmas.{heads_are_whole}
 use Rattle.site_laws.proofs.OutcomeLemmas.{committed_from}
-use Rattle.site_laws.proofs.SessionLemmas.{SessionsGoOn, commits_by}
+use Rattle.site_laws.proofs.SessionLemmas.{SessionsGoOn, commits_by, kept_along}
 use Rattle.order_chains.specs.GoingOn.{first_lasts}
 use Rattle.order_chains.proofs.RequestLemmas.{last_cases}
 
@@ -142,11 +142,7 @@ module _ (s : SiteSetting) where
   normal_next known entries bytes is (outcome.Nothing cause) e = is
 
   normal_later : SessionsGoOn → (order more : Order) → AreNormal s.origin (sessions_after s order).lasts → AreNormal s.origin (sessions_after s (order ++ more)).lasts
-  normal_later next order [] is = subst (λ (o : Order). AreNormal s.origin (sessions_after s o).lasts) (sym (append-nil order)) is
-  normal_later next order (bytes ∷ more) is =
-      subst (λ (o : Order). AreNormal s.origin (sessions_after s o).lasts) (append_assoc order (bytes ∷ []) more)
-      (normal_later next (order ++ bytes ∷ []) more
-      (subst (λ (k : Sessions). AreNormal s.origin k.lasts) (sym (next s order bytes)) (normal_next (sessions_after s order) (order_entries s order) bytes is (next_outcome s order bytes) refl)))
+  normal_later next = kept_along next s (λ (k : Sessions). AreNormal s.origin k.lasts) (λ known entries bytes is. normal_next known entries bytes is (outcome_behind s known entries bytes) refl)
 
   all_normal : SessionsGoOn → sessions_after s [] ≡ record { opened = 0; lasts = first_lasts s } → (order : Order) → AreNormal s.origin (sessions_after s order).lasts
   all_normal next at_first order =

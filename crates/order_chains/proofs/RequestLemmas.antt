@@ -23,7 +23,7 @@ use Rattle.site_model.specs.Standing.{SiteSetting, is_decided}
 use Rattle.site_model.specs.Order.{Order, next_outcome, order_entries, outcome_behind, request_in, sessions_after}
 use Rattle.site_model.proofs.OrderLemmas.{opens_one}
 use Rattle.site_laws.proofs.OutcomeLemmas.{committed_from, opened_from, undecided_from}
-use Rattle.site_laws.proofs.SessionLemmas.{KnowsMore, SessionsGoOn, commits_by, known_session, more_known, opens_behind}
+use Rattle.site_laws.proofs.SessionLemmas.{SessionsGoOn, commits_by, kept_along, opens_behind}
 use Rattle.order_chains.specs.GoingOn.{AreNumbered, IsTooLate, first_lasts}
 
 -- ---- last requests
@@ -218,11 +218,7 @@ module _ (t : SiteSetting) (origin : Origin) (has : t.origin ≡ Some origin) (r
         record { numbered = omega arith; last = last_next said refl }
 
   pub late_later : SessionsGoOn → (order more : Order) → IsLate t origin request (sessions_after t order) → IsLate t origin request (sessions_after t (order ++ more))
-  late_later next order [] late = subst (λ (o : Order). IsLate t origin request (sessions_after t o)) (sym (append-nil order)) late
-  late_later next order (bytes ∷ more) late =
-      subst (λ (o : Order). IsLate t origin request (sessions_after t o)) (append_assoc order (bytes ∷ []) more)
-      (late_later next (order ++ bytes ∷ []) more
-      (subst (IsLate t origin request) (sym (next t order bytes)) (late_next (sessions_after t order) (order_entries t order) bytes late)))
+  late_later next = kept_along next t (IsLate t origin request) late_next
 
   -- an order that comes too late
   pub late_at_first : (first : sessions_after t [] ≡ record { opened = 0; lasts = first_lasts t }) → request.session ≤ origin.sessions → 1 ≤ request.sequence
@@ -286,11 +282,7 @@ module _ (s : SiteSetting) (origin : Origin) (has : s.origin ≡ Some origin) wh
 
   numbered_later : SessionsGoOn → (order more : Order) → IsNumbered (origin.sessions + (sessions_after s order).opened) (sessions_after s order).lasts
       → IsNumbered (origin.sessions + (sessions_after s (order ++ more)).opened) (sessions_after s (order ++ more)).lasts
-  numbered_later next order [] is = subst (λ (o : Order). IsNumbered (origin.sessions + (sessions_after s o).opened) (sessions_after s o).lasts) (sym (append-nil order)) is
-  numbered_later next order (bytes ∷ more) is =
-      subst (λ (o : Order). IsNumbered (origin.sessions + (sessions_after s o).opened) (sessions_after s o).lasts) (append_assoc order (bytes ∷ []) more)
-      (numbered_later next (order ++ bytes ∷ []) more
-      (subst (λ (k : Sessions). IsNumbered (origin.sessions + k.opened) k.lasts) (sym (next s order bytes)) (numbered_next (sessions_after s order) (order_entries s order) bytes is (next_outcome s order bytes) refl)))
+  numbered_later next = kept_along next s (λ (k : Sessions). IsNumbered (origin.sessions + k.opened) k.lasts) (λ known entries bytes is. numbered_next known entries bytes is (outcome_behind s known entries bytes) refl)
 
   pub all_numbered : SessionsGoOn → (first : sessions_after s [] ≡ record { opened = 0; lasts = first_lasts s }) → AreNumbered s → (order : Order)
       → (session : ℕ) (last : DoneRequest) → get (sessions_after s order).lasts session ≡ Some last → session ≤ origin.sessions + (sessions_after s order).opened

@@ -1,6 +1,6 @@
 -- What the setting lines of a script have set so far.
 use Rattle.std.specs.Prelude.{ℕ, ◌≤◌, ◌==◌, ◌&&◌, Bool, if◌then◌else◌, List, [], ◌∷◌, ◌++◌, length, Option, Some, None, Result, Ok, Err, IfSome, refl}
-use Rattle.std.specs.Coded.{Coded, code_by, coded×, coded_list, coded_ℕ, coded_option}
+use Rattle.std.specs.Coded.{Coded, code_by, coded×, coded_ℕ, coded_option}
 use Rattle.std.specs.FinMap.{empty, entries, insert}
 use Rattle.schema.specs.declared.limits.TheConstants.{MAX_REPLICAS, MAX_WINDOW}
 use Rattle.bpf_code.specs.Program.{Program}
@@ -27,17 +27,11 @@ use Rattle.script.specs.Acceptance.{refusal_of}
 pub record ScriptSettings : Type 0 where
   pub window : Option ℕ
   pub replicas : Option ℕ
-  pub table_list : List (ℕ × ℕ)  -- the tables with their widths, in order of entry
   pub catalogue : SystemCatalogue
 
 -- before the first line
 abbrev pub no_settings : ScriptSettings
-no_settings = record {
-  window = None;
-  replicas = None;
-  table_list = [];
-  catalogue = record { tables = empty; rows = empty; requests = []; procedures = [] };
-}
+no_settings = record { window = None; replicas = None; catalogue = record { tables = empty; rows = empty; requests = []; procedures = [] } }
 
 -- ---- what may be at fault
 
@@ -124,8 +118,7 @@ unfoldable pub setting_after : ScriptSettings → ScriptSetting → Result Scrip
 setting_after s (setting.Window window) = then_with (once s.window window) (λ window. Ok (record s { window = window }))
 setting_after s (setting.Replicas replicas) = then_with (once s.replicas replicas) (λ replicas. Ok (record s { replicas = replicas }))
 setting_after s (setting.Table table width) =
-    then_with (with_table s.catalogue table width) (λ catalogue.
-    Ok (record s { table_list = s.table_list ++ (table, width) ∷ []; catalogue = catalogue }))
+    then_with (with_table s.catalogue table width) (λ catalogue. Ok (record s { catalogue = catalogue }))
 setting_after s (setting.Procedure p) =
     then_with (with_procedure s.catalogue p.name p.number p.args_len p.program) (λ catalogue. Ok (record s { catalogue = catalogue }))
 setting_after s (setting.Row table key row) =
@@ -143,8 +136,8 @@ pub record AreWithinLimits (window replicas : Option ℕ) : Type 0 where
 -- ---- how settings are told from others, as the checker needs it
 
 abbrev pub settings_code : Coded ScriptSettings
-settings_code = code_by (Option ℕ × (Option ℕ × (List (ℕ × ℕ) × SystemCatalogue)))
-    (coded× (coded_option coded_ℕ) (coded× (coded_option coded_ℕ) (coded× (coded_list (coded× coded_ℕ coded_ℕ)) catalogue_code)))
-    (λ s. (s.window, (s.replicas, (s.table_list, s.catalogue))))
-    (λ c. record { window = c.0; replicas = c.1.0; table_list = c.1.1.0; catalogue = c.1.1.1 })
+settings_code = code_by (Option ℕ × (Option ℕ × SystemCatalogue))
+    (coded× (coded_option coded_ℕ) (coded× (coded_option coded_ℕ) catalogue_code))
+    (λ s. (s.window, (s.replicas, s.catalogue)))
+    (λ c. record { window = c.0; replicas = c.1.0; catalogue = c.1.1 })
     (λ _. refl)

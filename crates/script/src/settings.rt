@@ -17,14 +17,14 @@ use schema::{Schema, SchemaFault};
 use std::alloc::{AllocError, Allocator, Global};
 use std::marker::Model;
 
-/// The settings that the lines of a script have set so far. Contracts see the window, the number of replicas, the
-/// tables in order of entry and the catalogue.
+/// The settings that the lines of a script have set so far. Contracts see the window, the number of replicas and the
+/// catalogue.
 #[derive(Drop)]
 pub struct Settings<A: Allocator + Copy = Global> {
     window: Option<u32>,
     replicas: Option<u32>,
     /// The tables of the catalogue with their widths, in order of entry.
-    table_list: Vec<(u8, u16), A>,
+    pairs: Vec<(u8, u16), A>,
     catalogue: Catalogue<A>,
 }
 
@@ -37,15 +37,9 @@ impl<A: Allocator + Copy> Model for Settings<A> {
 
     ghost coded = { settings_code };
 
-    ghost view = { λ s. record {
-      window = s.window;
-      replicas = s.replicas;
-      table_list = s.table_list.items;
-      catalogue = s.catalogue;
-    } };
+    ghost view = { λ s. record { window = s.window; replicas = s.replicas; catalogue = s.catalogue } };
 
-    ghost invariant = { λ s. (schema_of s.table_list.items ≡ Ok s.catalogue.tables)
-        × AreWithinLimits s.window s.replicas };
+    ghost invariant = { λ s. (schema_of s.pairs.items ≡ Ok s.catalogue.tables) × AreWithinLimits s.window s.replicas };
 }
 
 impl<A: Allocator + Copy> Settings<A> {
@@ -60,7 +54,7 @@ impl<A: Allocator + Copy> Settings<A> {
         Ok(Settings {
             window: None,
             replicas: None,
-            table_list: Vec::new(alloc),
+            pairs: Vec::new(alloc),
             catalogue: Catalogue::new(alloc, schema),
         })
     }
@@ -78,10 +72,10 @@ impl<A: Allocator + Copy> Settings<A> {
             Setting::Window(window) => set_once(&mut self.window, window),
             Setting::Replicas(replicas) => set_once(&mut self.replicas, replicas),
             Setting::Table { table, width } => {
-                add_table(&mut self.table_list, &mut self.catalogue, table, width)
+                add_table(&mut self.pairs, &mut self.catalogue, table, width)
             }
             Setting::Procedure(procedure) => add_procedure(
-                *self.table_list.allocator(),
+                *self.pairs.allocator(),
                 &mut self.catalogue,
                 procedure.name.as_slice(),
                 procedure.number,
@@ -127,19 +121,6 @@ impl<A: Allocator + Copy> Settings<A> {
     {
         let Settings { catalogue, .. } = self;
         catalogue
-    }
-
-    /// The tables with their widths, in order of entry, and the catalogue.
-    pub fn into_tables(self) -> (Vec<(u8, u16), A>, Catalogue<A>)
-        ensures tables { result.0.items ≡ self.table_list }
-        ensures catalogue { result.1 ≡ self.catalogue }
-    {
-        let Settings {
-            table_list,
-            catalogue,
-            ..
-        } = self;
-        (table_list, catalogue)
     }
 }
 

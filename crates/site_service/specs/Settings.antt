@@ -1,6 +1,6 @@
 -- What the settings of sites say: lines that set something in scripts, but for the number of replicas, and once each the
 -- lines `additions` and `origin`.
-use Rattle.std.specs.Prelude.{ℕ, ◌==◌, nat_lt, Bool, true, false, not, is_some, ◌||◌, if◌then◌else◌, List, [], length, codes, Option, Some, None, Result, Ok, Err}
+use Rattle.std.specs.Prelude.{ℕ, ◌==◌, nat_lt, Bool, true, false, not, is_some, ◌||◌, if◌then◌else◌, List, [], ◌∷◌, ◌++◌, length, codes, Option, Some, None, Result, Ok, Err}
 use Rattle.std.specs.Option.{option_map}
 use Rattle.std.specs.Str.{bytes_eq}
 use Rattle.script.specs.declared.fault.LineFault.{LineFault}
@@ -54,11 +54,12 @@ IsWithinLimits (Statement s) = script.IsWithinLimits s
 
 pub record SettingsSoFar : Type 0 where
   pub settings : ScriptSettings
+  pub table_list : List (ℕ × ℕ)  -- the tables with their widths, in order of entry
   pub takes_additions : Bool
   pub origin : Option OrderOrigin
 
 abbrev pub nothing_set : SettingsSoFar
-nothing_set = record { settings = no_settings; takes_additions = false; origin = None }
+nothing_set = record { settings = no_settings; table_list = []; takes_additions = false; origin = None }
 
 -- `additions` stands once
 abbrev pub with_additions : SettingsSoFar → Result SettingsSoFar FaultCause
@@ -79,11 +80,18 @@ abbrev pub with_script_setting : SettingsSoFar → ScriptSetting → Result Sett
 with_script_setting s setting =
     then_with (setting_after s.settings setting) (λ settings. Ok (record s { settings = settings }))
 
--- a site has one replica; tables stand before the origin
+-- tables stand before the origin
+abbrev pub with_table : SettingsSoFar → ℕ → ℕ → Result SettingsSoFar FaultCause
+with_table s table width =
+    if is_some s.origin then Err Place
+    else then_with (setting_after s.settings (Table table width)) (λ settings.
+    Ok (record s { settings = settings; table_list = s.table_list ++ (table, width) ∷ [] }))
+
+-- a site has one replica
 abbrev pub with_setting : SettingsSoFar → ScriptSetting → Result SettingsSoFar FaultCause
 with_setting s (Replicas replicas) = Err Place
 with_setting s (Origin strings sessions) = with_origin s (record { strings = strings; sessions = sessions })
-with_setting s (Table table width) = if is_some s.origin then Err Place else with_script_setting s (Table table width)
+with_setting s (Table table width) = with_table s table width
 with_setting s (Request r) = if is_beyond s.origin r.session then Err Session else with_script_setting s (Request r)
 with_setting s setting = with_script_setting s setting
 
@@ -101,7 +109,7 @@ abbrev pub with_window : SettingsSoFar → Option ℕ → Result SiteSetting Scr
 with_window s None = Err (fault_at 0 Place)
 with_window s (Some window) = Ok (record {
   setting = system_setting s.settings.catalogue window;
-  table_list = s.settings.table_list;
+  table_list = s.table_list;
   takes_additions = s.takes_additions;
   origin = s.origin;
 })

@@ -3,7 +3,7 @@
 ghost use Rattle.std.specs.Prelude.{◌≡◌, ◌⊎◌, Ok, Err, IfOk, IfErr, OnOk};
 ghost use Rattle.script.specs.Script.{IsSettingWithinLimits};
 ghost use Rattle.script.specs.declared.cause.FaultCause.TheVariants.{NoMemory};
-ghost use Rattle.site_service.specs.Settings.{is_beyond, with_additions, with_origin, with_setting};
+ghost use Rattle.site_service.specs.Settings.{is_beyond, with_additions, with_origin, with_setting, with_table};
 ghost use Rattle.site_service.specs.Reading.{so_far};
 
 use crate::settings_line::{SettingsLine, SettingsWord};
@@ -19,6 +19,8 @@ use std::alloc::{AllocError, Allocator};
 #[derive(Drop)]
 pub(crate) struct Reading<A: Allocator + Copy> {
     pub(crate) settings: Settings<A>,
+    /// The tables with their widths, in order of entry.
+    pub(crate) table_list: Vec<(u8, u16), A>,
     pub(crate) takes_additions: bool,
     pub(crate) origin: Option<Origin>,
 }
@@ -48,6 +50,22 @@ impl<A: Allocator + Copy> Reading<A> {
         Ok(())
     }
 
+    /// Takes a table, which stands before the origin.
+    fn set_table(&mut self, table: u8, width: u16) -> Result<(), FaultCause>
+        ensures ok { OnOk result (with_table (so_far self.old) table width ≡ Ok (so_far self.new)) }
+        ensures fault { IfErr result (λ cause. (cause ≡ NoMemory)
+            ⊎ (with_table (so_far self.old) table width ≡ Err cause)) }
+    {
+        if self.origin.is_some() {
+            return Err(FaultCause::Place);
+        }
+        self.settings.set(Setting::Table { table, width })?;
+        match self.table_list.push((table, width)) {
+            Ok(()) => Ok(()),
+            Err(_) => Err(FaultCause::NoMemory),
+        }
+    }
+
     /// Tells whether a session has a greater number than those of the origin.
     fn is_beyond(&self, session: u32) -> bool
         ensures { result ≡ is_beyond self.now.origin session }
@@ -67,7 +85,7 @@ impl<A: Allocator + Copy> Reading<A> {
     {
         match setting {
             Setting::Replicas(_) => Err(FaultCause::Place),
-            Setting::Table { .. } if self.origin.is_some() => Err(FaultCause::Place),
+            Setting::Table { table, width } => self.set_table(table, width),
             Setting::Origin { strings, sessions } => {
                 self.set_origin(Origin { strings, sessions })
             }
@@ -114,6 +132,7 @@ impl<A: Allocator + Copy> LineReader<A> for Reading<A> {
     fn new(alloc: A) -> Result<Reading<A>, AllocError> {
         Ok(Reading {
             settings: Settings::new(alloc)?,
+            table_list: Vec::new(alloc),
             takes_additions: false,
             origin: None,
         })
@@ -132,6 +151,7 @@ impl<A: Allocator + Copy> LineReader<A> for Reading<A> {
     fn into_whole(self) -> Result<SiteSettings<A>, ScriptFault> {
         let Reading {
             settings,
+            table_list,
             takes_additions,
             origin,
         } = self;
@@ -141,10 +161,9 @@ impl<A: Allocator + Copy> LineReader<A> for Reading<A> {
                 cause: FaultCause::Place,
             });
         };
-        let (table_list, catalogue) = settings.into_tables();
         Ok(SiteSettings {
             window,
-            catalogue,
+            catalogue: settings.into_catalogue(),
             table_list,
             takes_additions,
             origin,
