@@ -17,15 +17,12 @@ use Rattle.log_model.specs.Log.{DoneRequest}
 use Rattle.log_model.specs.Entries.{Entry}
 use Rattle.log_entry.specs.Head.{head_of}
 use Rattle.site_model.specs.declared.origin.Origin.{Origin}
-use Rattle.site_model.specs.declared.outcome.EntryOutcome.{EntryOutcome}
-use Rattle.site_model.specs.declared.outcome.EntryOutcome.TheVariants as outcome
-use Rattle.site_model.specs.Sessions.{LastRequests, Sessions, done_by, lasts_of, nothing_done, sessions_with, told_of, with_done, with_done_if}
+use Rattle.site_model.specs.Sessions.{LastRequests, Sessions, lasts_of, nothing_done, sessions_with, told_of, with_done}
 use Rattle.site_model.specs.Standing.{SiteSetting}
-use Rattle.site_model.specs.Order.{Order, next_outcome, order_entries, outcome_behind, request_in, sessions_after}
+use Rattle.site_model.specs.Order.{Order, outcome_behind, sessions_after}
 use Rattle.site_model.specs.Next.{origin_behind, requests_of}
 use Rattle.site_laws.proofs.FinalLemmas.{heads_are_whole}
-use Rattle.site_laws.proofs.OutcomeLemmas.{committed_from}
-use Rattle.site_laws.proofs.SessionLemmas.{SessionsGoOn, commits_by, kept_along}
+use Rattle.site_laws.proofs.SessionLemmas.{SessionsGoOn, kept_along, session_cases}
 use Rattle.order_chains.specs.GoingOn.{first_lasts}
 use Rattle.order_chains.proofs.RequestLemmas.{last_cases}
 
@@ -108,41 +105,26 @@ normal_from origin (d ∷ rest) lasts is = normal_from origin rest (with_done la
     (λ same newest e. subst (IsNormal origin session) (some_is (told_of origin d) last e) (record { of_session = sym same; told = told_again origin d })))
 
 module _ (s : SiteSetting) where
-  normal_next : (known : Sessions) (entries : List Entry) (bytes : List ℕ) → AreNormal s.origin known.lasts
-      → (o : EntryOutcome) → outcome_behind s known entries bytes ≡ o → AreNormal s.origin (with_done_if known.lasts (done_by o (head_of bytes)))
-  normal_next known entries bytes is (outcome.Session opened) e = λ session last.
-      last_cases known.lasts (nothing_done opened) session (λ o. o ≡ Some last → IsNormal s.origin session last) (is session last)
-      (λ same newest found. subst (IsNormal s.origin session) (some_is (nothing_done opened) last found) (record { of_session = sym same; told = told_nothing s.origin opened }))
-  normal_next known entries bytes is (outcome.Committed reply) e = by_done (done_by (outcome.Committed reply) (head_of bytes)) refl
+  no_zero : (r : Option RequestId) (request : RequestId) → r ≡ Some request → has_zero r ≡ false → (request.sequence == 0) ≡ false
+  no_zero r request same whole = by_session (request.session == 0) (sym (ap has_zero same) ∙ whole)
     where
-      unopened : (opened : ℕ) → outcome_behind s known entries bytes ≡ outcome.Session opened → ⊥
-      unopened opened x = let bad : outcome.Committed reply ≡ outcome.Session opened = sym e ∙ x in cc
+      by_session : (b : Bool) → (b || (request.sequence == 0)) ≡ false → (request.sequence == 0) ≡ false
+      by_session true z = absurd cc
+      by_session false z = z
 
-      no_zero : (r : Option RequestId) (request : RequestId) → r ≡ Some request → has_zero r ≡ false → (request.sequence == 0) ≡ false
-      no_zero r request same whole = by_session (request.session == 0) (sym (ap has_zero same) ∙ whole)
-        where
-          by_session : (b : Bool) → (b || (request.sequence == 0)) ≡ false → (request.sequence == 0) ≡ false
-          by_session true z = absurd cc
-          by_session false z = z
-
-      by_done : (o : Option DoneRequest) → done_by (outcome.Committed reply) (head_of bytes) ≡ o → AreNormal s.origin (with_done_if known.lasts o)
-      by_done None x = is
-      by_done (Some done) x = λ session last.
+  normal_next : (known : Sessions) (entries : List Entry) (bytes : List ℕ) → AreNormal s.origin known.lasts → AreNormal s.origin (sessions_with known bytes (outcome_behind s known entries bytes)).lasts
+  normal_next known entries bytes is =
+      session_cases s known entries bytes (AreNormal s.origin) is
+      (λ opened e opens. with_normal (nothing_done opened) (told_nothing s.origin opened))
+      (λ done call told head carries within. with_normal done (told_something s.origin done (no_zero call.request done.request carries (heads_are_whole bytes call told head))))
+    where
+      with_normal : (done : DoneRequest) → told_of s.origin done ≡ done → AreNormal s.origin (with_done known.lasts done)
+      with_normal done told session last =
           last_cases known.lasts done session (λ o. o ≡ Some last → IsNormal s.origin session last) (is session last)
-          (λ same newest found.
-          let (replied, commits, carries) = commits_by (head_of bytes) (outcome_behind s known entries bytes) done unopened (ap (λ (o : EntryOutcome). done_by o (head_of bytes)) e ∙ x) in
-          let (call, told, stands) = committed_from s known entries bytes replied commits in
-          let some = no_zero call.request done.request (sym (ap request_in stands.head) ∙ carries) (heads_are_whole bytes call told stands.head) in
-          subst (IsNormal s.origin session) (some_is done last found) (record { of_session = sym same; told = told_something s.origin done some }))
-  normal_next known entries bytes is (outcome.Conflict position) e = is
-  normal_next known entries bytes is outcome.Stale e = is
-  normal_next known entries bytes is (outcome.Repeated position reply) e = is
-  normal_next known entries bytes is (outcome.Added number) e = is
-  normal_next known entries bytes is (outcome.Taken identifier) e = is
-  normal_next known entries bytes is (outcome.Nothing cause) e = is
+          (λ same newest found. subst (IsNormal s.origin session) (some_is done last found) (record { of_session = sym same; told = told }))
 
   normal_later : SessionsGoOn → (order more : Order) → AreNormal s.origin (sessions_after s order).lasts → AreNormal s.origin (sessions_after s (order ++ more)).lasts
-  normal_later next = kept_along next s (λ (k : Sessions). AreNormal s.origin k.lasts) (λ known entries bytes is. normal_next known entries bytes is (outcome_behind s known entries bytes) refl)
+  normal_later next = kept_along next s (λ (k : Sessions). AreNormal s.origin k.lasts) normal_next
 
   all_normal : SessionsGoOn → sessions_after s [] ≡ record { opened = 0; lasts = first_lasts s } → (order : Order) → AreNormal s.origin (sessions_after s order).lasts
   all_normal next at_first order =

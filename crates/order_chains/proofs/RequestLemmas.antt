@@ -18,12 +18,12 @@ use Rattle.site_model.specs.declared.cause.NothingCause.TheVariants.{UnknownSess
 use Rattle.site_model.specs.declared.origin.Origin.{Origin}
 use Rattle.site_model.specs.declared.outcome.EntryOutcome.{EntryOutcome}
 use Rattle.site_model.specs.declared.outcome.EntryOutcome.TheVariants as outcome
-use Rattle.site_model.specs.Sessions.{LastRequests, Sessions, done_by, is_known, is_superseded, lasts_of, nothing_done, session_cause, session_opened, sessions_with, told_of, with_done, with_done_if}
+use Rattle.site_model.specs.Sessions.{LastRequests, Sessions, done_by, is_superseded, lasts_of, nothing_done, opened_with, session_cause, session_opened, sessions_with, told_of, with_done, with_done_if}
 use Rattle.site_model.specs.Standing.{SiteSetting, is_decided}
 use Rattle.site_model.specs.Order.{Order, next_outcome, order_entries, outcome_behind, request_in, sessions_after}
 use Rattle.site_model.proofs.OrderLemmas.{opens_one}
-use Rattle.site_laws.proofs.OutcomeLemmas.{committed_from, opened_from, undecided_from}
-use Rattle.site_laws.proofs.SessionLemmas.{SessionsGoOn, commits_by, kept_along, opens_behind}
+use Rattle.site_laws.proofs.OutcomeLemmas.{committed_from, undecided_from}
+use Rattle.site_laws.proofs.SessionLemmas.{SessionsGoOn, kept_along, opens_behind, session_cases}
 use Rattle.order_chains.specs.GoingOn.{AreNumbered, IsTooLate, first_lasts}
 
 -- ---- last requests
@@ -170,52 +170,29 @@ module _ (t : SiteSetting) (origin : Origin) (has : t.origin ≡ Some origin) (r
     abbrev Last : Option DoneRequest → Type 0
     Last o = (d : DoneRequest) → o ≡ Some d → (request.sequence ≤ d.request.sequence) × (d.request.sequence ≡ request.sequence → was_done t.setting.beginning.requests (Some request) ≡ true)
 
-    with_opened : (opened : ℕ) → said ≡ outcome.Session opened → Last (get (with_done known.lasts (nothing_done opened)) request.session)
+    with_opened : (opened : ℕ) → session_opened t.origin known.opened bytes ≡ Some opened → Last (get (with_done known.lasts (nothing_done opened)) request.session)
     with_opened opened opens = last_cases known.lasts (nothing_done opened) request.session Last late.last
         (λ same newest. absurd (
-        let behind = opens_behind origin known.opened bytes opened (ap (λ (o : Option Origin). session_opened o known.opened bytes) (sym has) ∙ opened_from t known entries bytes opened opens) in
+        let behind = opens_behind origin known.opened bytes opened (ap (λ (o : Option Origin). session_opened o known.opened bytes) (sym has) ∙ opens) in
         let numbered = late.numbered in
         omega arith))
 
-    with_committed : ((opened : ℕ) → said ≡ outcome.Session opened → ⊥) → (done : DoneRequest) → done_by said (head_of bytes) ≡ Some done → Last (get (with_done known.lasts done) request.session)
-    with_committed unopened done e = last_cases known.lasts done request.session Last late.last new
-      where
-        new : request.session ≡ done.request.session → is_superseded (get known.lasts done.request.session) done.request ≡ false → Last (Some done)
-        new same newest d is =
-            let (reply, commits, carries) = commits_by (head_of bytes) said done unopened e in
-            let (call, replied, stands) = committed_from t known entries bytes reply commits in
-            let within : session_cause (Some origin) known (Some done.request) ≡ None = sym (λ i. session_cause (has i) known ((sym (ap request_in stands.head) ∙ carries) i)) ∙ stands.in_session in
-            let n = is_newest origin known done.request within in
-            let (reaches, was) = late.last n.last (ap (get known.lasts) same ∙ n.is) in
-            let rises = n.newest in
-            let at : done ≡ d = some_is done d is in
-            let number : d.request.sequence ≡ done.request.sequence = ap (λ (x : DoneRequest). x.request.sequence) (sym at) in (
-              omega arith,
-              λ equal. was (omega (arith, equal)),
-            )
-
-    last_next : (o : EntryOutcome) → said ≡ o → Last (get (with_done_if known.lasts (done_by o (head_of bytes))) request.session)
-    last_next (outcome.Session opened) is = with_opened opened is
-    last_next (outcome.Committed reply) is = by_done (done_by (outcome.Committed reply) (head_of bytes)) refl
-      where
-        unopened : (opened : ℕ) → said ≡ outcome.Session opened → ⊥
-        unopened opened e = let bad : outcome.Committed reply ≡ outcome.Session opened = sym is ∙ e in cc
-
-        by_done : (o : Option DoneRequest) → done_by (outcome.Committed reply) (head_of bytes) ≡ o → Last (get (with_done_if known.lasts o) request.session)
-        by_done None e = late.last
-        by_done (Some done) e = with_committed unopened done (ap (λ (o : EntryOutcome). done_by o (head_of bytes)) is ∙ e)
-    last_next (outcome.Conflict position) is = late.last
-    last_next outcome.Stale is = late.last
-    last_next (outcome.Repeated position reply) is = late.last
-    last_next (outcome.Added number) is = late.last
-    last_next (outcome.Taken identifier) is = late.last
-    last_next (outcome.Nothing cause) is = late.last
+    with_committed : (done : DoneRequest) → session_cause t.origin known (Some done.request) ≡ None → Last (get (with_done known.lasts done) request.session)
+    with_committed done within = last_cases known.lasts done request.session Last late.last (λ same newest d is.
+        let n = is_newest origin known done.request (ap (λ (o : Option Origin). session_cause o known (Some done.request)) (sym has) ∙ within) in
+        let (reaches, was) = late.last n.last (ap (get known.lasts) same ∙ n.is) in
+        let rises = n.newest in
+        let number : done.request.sequence ≡ d.request.sequence = ap (λ (x : DoneRequest). x.request.sequence) (some_is done d is) in
+        (omega arith, λ equal. was (omega (arith, equal))))
 
     late_next : IsLate t origin request (sessions_with known bytes said)
     late_next =
         let numbered = late.numbered in
         let grows = (opens_one known.opened said).0 in
-        record { numbered = omega arith; last = last_next said refl }
+        record {
+          numbered = omega arith;
+          last = session_cases t known entries bytes (λ lasts. Last (get lasts request.session)) late.last (λ opened e opens. with_opened opened opens) (λ done call told head carries within. with_committed done within);
+        }
 
   pub late_later : SessionsGoOn → (order more : Order) → IsLate t origin request (sessions_after t order) → IsLate t origin request (sessions_after t (order ++ more))
   late_later next = kept_along next t (IsLate t origin request) late_next
@@ -253,36 +230,35 @@ late_against t origin request known why numbered against = record { numbered = n
 
 module _ (s : SiteSetting) (origin : Origin) (has : s.origin ≡ Some origin) where
   numbered_next : (known : Sessions) (entries : List Entry) (bytes : List ℕ) → IsNumbered (origin.sessions + known.opened) known.lasts
-      → (o : EntryOutcome) → outcome_behind s known entries bytes ≡ o → IsNumbered (origin.sessions + (sessions_with known bytes o).opened) (sessions_with known bytes o).lasts
-  numbered_next known entries bytes is (outcome.Session opened) e = λ session last.
-      last_cases known.lasts (nothing_done opened) session (λ x. x ≡ Some last → session ≤ origin.sessions + suc known.opened)
-      (λ found. let le = is session last found in omega arith)
-      (λ same newest found. let behind = opens_behind origin known.opened bytes opened (ap (λ (x : Option Origin). session_opened x known.opened bytes) (sym has) ∙ opened_from s known entries bytes opened e) in omega arith)
-  numbered_next known entries bytes is (outcome.Committed reply) e = by_done (done_by (outcome.Committed reply) (head_of bytes)) refl
+      → IsNumbered (origin.sessions + (sessions_with known bytes (outcome_behind s known entries bytes)).opened) (sessions_with known bytes (outcome_behind s known entries bytes)).lasts
+  numbered_next known entries bytes is =
+      session_cases s known entries bytes (IsNumbered most) within
+      (λ opened e opens session last. last_cases known.lasts (nothing_done opened) session (λ o. o ≡ Some last → session ≤ most) (within session last)
+      (λ same newest found.
+      let behind = opens_behind origin known.opened bytes opened (ap (λ (o : Option Origin). session_opened o known.opened bytes) (sym has) ∙ opens) in
+      let more : opened_with known.opened said ≡ suc known.opened = ap (opened_with known.opened) e in
+      omega arith))
+      (λ done call told head carries cause session last. last_cases known.lasts done session (λ o. o ≡ Some last → session ≤ most) (within session last)
+      (λ same newest found.
+      let n = is_newest origin known done.request (ap (λ (o : Option Origin). session_cause o known (Some done.request)) (sym has) ∙ cause) in
+      let le = within done.request.session n.last n.is in
+      omega arith))
     where
-      unopened : (opened : ℕ) → outcome_behind s known entries bytes ≡ outcome.Session opened → ⊥
-      unopened opened x = let bad : outcome.Committed reply ≡ outcome.Session opened = sym e ∙ x in cc
+      said : EntryOutcome
+      said = outcome_behind s known entries bytes
 
-      by_done : (o : Option DoneRequest) → done_by (outcome.Committed reply) (head_of bytes) ≡ o → IsNumbered (origin.sessions + known.opened) (with_done_if known.lasts o)
-      by_done None x = is
-      by_done (Some done) x = λ session last.
-          last_cases known.lasts done session (λ o. o ≡ Some last → session ≤ origin.sessions + known.opened) (is session last)
-          (λ same newest found.
-          let (replied, commits, carries) = commits_by (head_of bytes) (outcome_behind s known entries bytes) done unopened (ap (λ (o : EntryOutcome). done_by o (head_of bytes)) e ∙ x) in
-          let (call, told, stands) = committed_from s known entries bytes replied commits in
-          let n = is_newest origin known done.request (sym (λ i. session_cause (has i) known ((sym (ap request_in stands.head) ∙ carries) i)) ∙ stands.in_session) in
-          let le = is done.request.session n.last n.is in
-          omega arith)
-  numbered_next known entries bytes is (outcome.Conflict position) e = is
-  numbered_next known entries bytes is outcome.Stale e = is
-  numbered_next known entries bytes is (outcome.Repeated position reply) e = is
-  numbered_next known entries bytes is (outcome.Added number) e = is
-  numbered_next known entries bytes is (outcome.Taken identifier) e = is
-  numbered_next known entries bytes is (outcome.Nothing cause) e = is
+      most : ℕ
+      most = origin.sessions + opened_with known.opened said
+
+      within : IsNumbered most known.lasts
+      within session last found =
+          let le = is session last found in
+          let grows = (opens_one known.opened said).0 in
+          omega arith
 
   numbered_later : SessionsGoOn → (order more : Order) → IsNumbered (origin.sessions + (sessions_after s order).opened) (sessions_after s order).lasts
       → IsNumbered (origin.sessions + (sessions_after s (order ++ more)).opened) (sessions_after s (order ++ more)).lasts
-  numbered_later next = kept_along next s (λ (k : Sessions). IsNumbered (origin.sessions + k.opened) k.lasts) (λ known entries bytes is. numbered_next known entries bytes is (outcome_behind s known entries bytes) refl)
+  numbered_later next = kept_along next s (λ (k : Sessions). IsNumbered (origin.sessions + k.opened) k.lasts) numbered_next
 
   pub all_numbered : SessionsGoOn → (first : sessions_after s [] ≡ record { opened = 0; lasts = first_lasts s }) → AreNumbered s → (order : Order)
       → (session : ℕ) (last : DoneRequest) → get (sessions_after s order).lasts session ≡ Some last → session ≤ origin.sessions + (sessions_after s order).opened

@@ -7,9 +7,9 @@ use Rattle.std.specs.FinMap.{get, insert, get-insert, nat_cmp-IsAntisymmetric}
 use Rattle.std.proofs.lemmas.Bool.Decides.{nat_tests}
 use Rattle.std.proofs.lemmas.Map.Views.{tells_apart}
 use Rattle.log_model.specs.declared.request.RequestId.{RequestId}
-use Rattle.log_model.specs.Log.{DoneRequest}
+use Rattle.log_model.specs.Log.{Call, DoneRequest}
 use Rattle.log_model.specs.Entries.{Entry}
-use Rattle.log_entry.specs.Head.{Head, AdditionHead, CallHead, head_of}
+use Rattle.log_entry.specs.Head.{Head, CallHead, head_of}
 use Rattle.site_model.specs.declared.cause.NothingCause.{NothingCause}
 use Rattle.site_model.specs.declared.cause.NothingCause.TheVariants.{UnknownSession, Superseded}
 use Rattle.site_model.specs.declared.origin.Origin.{Origin}
@@ -17,10 +17,10 @@ use Rattle.site_model.specs.declared.outcome.EntryOutcome.{EntryOutcome}
 use Rattle.site_model.specs.declared.outcome.EntryOutcome.TheVariants as outcome
 use Rattle.site_model.specs.Sessions.{LastRequests, Sessions, done_by, is_known, is_opening, is_superseded, nothing_done, session_cause, session_opened, sessions_with, with_done, with_done_if}
 use Rattle.site_model.specs.Standing.{SiteSetting}
-use Rattle.site_model.specs.Order.{Order, next_outcome, order_entries, outcome_behind, request_in, sessions_after}
+use Rattle.site_model.specs.Order.{Order, next_outcome, order_entries, outcome_behind, sessions_after}
 use Rattle.site_model.proofs.OrderLemmas.{opens_one}
 use Rattle.site_laws.specs.Settled.{WasNumbered}
-use Rattle.site_laws.proofs.OutcomeLemmas.{committed_from, opened_from}
+use Rattle.site_laws.proofs.OutcomeLemmas.{CommitsAs, committed_from, opened_from}
 
 -- ---- last requests
 
@@ -173,22 +173,30 @@ has_none known session = by_last (get known.lasts session) refl
 past_unknown : (origin : Origin) (known : Sessions) (session : ℕ) → IsPast origin known session → is_known known session ≡ false
 past_unknown origin known session past = ap (λ (o : Option DoneRequest). is_some o) past.none
 
--- a call that commits has done its request, and nothing else has
-pub commits_by : (head : Option Head) (o : EntryOutcome) (done : DoneRequest) → ((session : ℕ) → o ≡ outcome.Session session → ⊥) → done_by o head ≡ Some done → (reply : ℕ) × (o ≡ outcome.Committed reply) × (request_in head ≡ Some done.request)
-commits_by (Some (CallHead call told)) (outcome.Committed reply) done unopened e = (reply, refl, by_request call.request e)
+-- what a byte string does of sessions: nothing; or it opens one; or it is a call that commits, against which nothing is
+pub session_cases : (s : SiteSetting) (known : Sessions) (entries : List Entry) (bytes : List ℕ) (P : LastRequests → Type 0) → P known.lasts
+    → ((opened : ℕ) → outcome_behind s known entries bytes ≡ outcome.Session opened → session_opened s.origin known.opened bytes ≡ Some opened → P (with_done known.lasts (nothing_done opened)))
+    → ((done : DoneRequest) (call : Call) (told : ℕ) → head_of bytes ≡ Some (CallHead call told) → call.request ≡ Some done.request → session_cause s.origin known (Some done.request) ≡ None → P (with_done known.lasts done))
+    → P (sessions_with known bytes (outcome_behind s known entries bytes)).lasts
+session_cases s known entries bytes P same opens commits = by_outcome (outcome_behind s known entries bytes) refl
   where
-    by_request : (r : Option RequestId) → option_map (λ request. record { request = request; reply = reply; procedure = call.procedure; args = call.args }) r ≡ Some done → r ≡ Some done.request
-    by_request None e = absurd cc
-    by_request (Some request) e = ap (option_map (λ (d : DoneRequest). d.request)) e
-commits_by None (outcome.Committed reply) done unopened e = absurd cc
-commits_by (Some (AdditionHead p)) (outcome.Committed reply) done unopened e = absurd cc
-commits_by head (outcome.Session session) done unopened e = absurd (unopened session refl)
-commits_by head (outcome.Conflict position) done unopened e = absurd cc
-commits_by head outcome.Stale done unopened e = absurd cc
-commits_by head (outcome.Repeated position reply) done unopened e = absurd cc
-commits_by head (outcome.Added number) done unopened e = absurd cc
-commits_by head (outcome.Taken identifier) done unopened e = absurd cc
-commits_by head (outcome.Nothing cause) done unopened e = absurd cc
+    by_request : (reply : ℕ) (call : Call) (told : ℕ) → CommitsAs s known entries bytes call told → (r : Option RequestId) → call.request ≡ r
+        → P (with_done_if known.lasts (option_map (λ request. record { request = request; reply = reply; procedure = call.procedure; args = call.args }) r))
+    by_request reply call told is None e = same
+    by_request reply call told is (Some request) e =
+        commits (record { request = request; reply = reply; procedure = call.procedure; args = call.args }) call told is.head e (sym (ap (session_cause s.origin known) e) ∙ is.in_session)
+
+    by_outcome : (o : EntryOutcome) → outcome_behind s known entries bytes ≡ o → P (with_done_if known.lasts (done_by o (head_of bytes)))
+    by_outcome (outcome.Session opened) e = opens opened e (opened_from s known entries bytes opened e)
+    by_outcome (outcome.Committed reply) e =
+        let (call, told, is) = committed_from s known entries bytes reply e in
+        subst (λ (h : Option Head). P (with_done_if known.lasts (done_by (outcome.Committed reply) h))) (sym is.head) (by_request reply call told is call.request refl)
+    by_outcome (outcome.Conflict position) e = same
+    by_outcome outcome.Stale e = same
+    by_outcome (outcome.Repeated position reply) e = same
+    by_outcome (outcome.Added number) e = same
+    by_outcome (outcome.Taken identifier) e = same
+    by_outcome (outcome.Nothing cause) e = same
 
 -- a session is numbered behind those that were opened before
 pub opens_behind : (origin : Origin) (opened : ℕ) (bytes : List ℕ) (session : ℕ) → session_opened (Some origin) opened bytes ≡ Some session → session ≡ origin.sessions + opened + 1
@@ -214,44 +222,28 @@ module _ (s : SiteSetting) (origin : Origin) (has : s.origin ≡ Some origin) (s
         by_session false e = past.none
         by_session true e = absurd (other (tells_apart {R = nat_cmp} nat_cmp-IsAntisymmetric session done.request.session e))
 
-    is_opened : (opened : ℕ) → told ≡ outcome.Session opened → session ≡ opened → ⊥
+    is_opened : (opened : ℕ) → session_opened s.origin known.opened bytes ≡ Some opened → session ≡ opened → ⊥
     is_opened opened opens same =
-        let behind = opens_behind origin known.opened bytes opened (ap (λ (o : Option Origin). session_opened o known.opened bytes) (sym has) ∙ opened_from s known entries bytes opened opens) in
+        let behind = opens_behind origin known.opened bytes opened (ap (λ (o : Option Origin). session_opened o known.opened bytes) (sym has) ∙ opens) in
         let early = past.early in
         omega arith
 
     -- nothing was against a call that committed
-    is_committed : ((opened : ℕ) → told ≡ outcome.Session opened → ⊥) → (done : DoneRequest) → done_by told (head_of bytes) ≡ Some done → session ≡ done.request.session → ⊥
-    is_committed unopened done e same =
-        let (reply, commits, carries) = commits_by (head_of bytes) told done unopened e in
-        let (call, replied, is) = committed_from s known entries bytes reply commits in
-        let within : session_cause (Some origin) known (Some done.request) ≡ None =
-        ap (λ (o : Option Origin). session_cause o known (Some done.request)) (sym has) ∙ ap (session_cause s.origin known) (sym carries ∙ ap request_in is.head) ∙ is.in_session in
-        let bad : true ≡ false = sym (known_session origin known done.request within) ∙ ap (is_known known) (sym same) ∙ past_unknown origin known session past in
+    is_committed : (done : DoneRequest) → session_cause s.origin known (Some done.request) ≡ None → session ≡ done.request.session → ⊥
+    is_committed done within same =
+        let is = known_session origin known done.request (ap (λ (o : Option Origin). session_cause o known (Some done.request)) (sym has) ∙ within) in
+        let bad : true ≡ false = sym is ∙ ap (is_known known) (sym same) ∙ past_unknown origin known session past in
         cc
-
-    none_next : (o : EntryOutcome) → told ≡ o → get (with_done_if known.lasts (done_by o (head_of bytes))) session ≡ None
-    none_next (outcome.Session opened) opens = others (nothing_done opened) (is_opened opened opens)
-    none_next (outcome.Committed reply) commits = by_done (done_by (outcome.Committed reply) (head_of bytes)) refl
-      where
-        unopened : (opened : ℕ) → told ≡ outcome.Session opened → ⊥
-        unopened opened e = let bad : outcome.Committed reply ≡ outcome.Session opened = sym commits ∙ e in cc
-
-        by_done : (o : Option DoneRequest) → done_by (outcome.Committed reply) (head_of bytes) ≡ o → get (with_done_if known.lasts o) session ≡ None
-        by_done None e = past.none
-        by_done (Some done) e = others done (is_committed unopened done (ap (λ (o : EntryOutcome). done_by o (head_of bytes)) commits ∙ e))
-    none_next (outcome.Conflict position) is = past.none
-    none_next outcome.Stale is = past.none
-    none_next (outcome.Repeated position reply) is = past.none
-    none_next (outcome.Added number) is = past.none
-    none_next (outcome.Taken identifier) is = past.none
-    none_next (outcome.Nothing cause) is = past.none
 
     past_next : IsPast origin (sessions_with known bytes told) session
     past_next =
         let early = past.early in
         let grows = (opens_one known.opened told).0 in
-        record { early = omega arith; none = none_next told refl }
+        record {
+          early = omega arith;
+          none = session_cases s known entries bytes (λ lasts. get lasts session ≡ None) past.none
+              (λ opened e opens. others (nothing_done opened) (is_opened opened opens)) (λ done call told head carries within. others done (is_committed done within));
+        }
 
   past_later : SessionsGoOn → (order more : Order) → IsPast origin (sessions_after s order) session → IsPast origin (sessions_after s (order ++ more)) session
   past_later next = kept_along next s (λ known. IsPast origin known session) past_next
