@@ -110,15 +110,22 @@ okay x = Ok x
 pub is_same : (made i : Instruction) → okay made ≡ okay i → made ≡ i
 is_same made i e = cc
 
-pub reads : (f : Fields) (i : Instruction) → FieldsFit f → reading_of f ≡ Ok i → IsRead i
+-- what an instruction is read from
+pub read_parts : (f : Fields) (i : Instruction) → reading_of f ≡ Ok i
+    → (o : Opcode) × (dst : Register) × (src : Register) × (opcode_of f.opcode ≡ Some o) × (register_of f.dst ≡ Some dst) × (register_of f.src ≡ Some src) × (unused_are_zero (uses_of o) f ≡ true) × (instruction_of o dst src f ≡ Some i)
 unfolding reading_of
-reads f i fit e =
+read_parts f i e =
     let (o, known, e1) = of_or_fault fault_cause.UnknownOpcode (opcode_of f.opcode) _ i e in
     let (dst, known_dst, e2) = of_or_fault fault_cause.RegisterNumber (register_of f.dst) _ i e1 in
     let (src, known_src, e3) = of_or_fault fault_cause.RegisterNumber (register_of f.src) _ i e2 in
     let (unused, e4) = where_unused (unused_are_zero (uses_of o) f) _ i e3 in
     let (made, is, e5) = of_or_fault fault_cause.UndefinedValue (instruction_of o dst src f) (λ x. Ok x) i e4 in
-    is_read i o dst src f fit (is ∙ ap Some (is_same made i e5))
+    (o, dst, src, known, known_dst, known_src, unused, is ∙ ap Some (is_same made i e5))
+
+pub reads : (f : Fields) (i : Instruction) → FieldsFit f → reading_of f ≡ Ok i → IsRead i
+reads f i fit e =
+    let (o, dst, src, known, known_dst, known_src, unused, is) = read_parts f i e in
+    is_read i o dst src f fit is
 
 abbrev pub high_half : ℕ → Result ℕ DecodeCause
 high_half x = Ok x

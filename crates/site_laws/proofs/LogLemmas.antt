@@ -109,13 +109,15 @@ by_commit replies c d verdict.Stale is e = absurd (subst IsCommitted (sym e) is)
 by_commit replies c d (verdict.Repeated n) is e = absurd (subst IsCommitted (sym e) is)
 by_commit replies c d (verdict.Taken i) is e = absurd (subst IsCommitted (sym e) is)
 
+-- what is told with a number, where it commits
+pub commits_with : (replies : ℕ → ℕ) (make : ℕ → EntryOutcome) → ((a b : ℕ) → make a ≡ make b → a ≡ b) → (told number : ℕ) (v : Verdict) → IsCommitted (make number)
+    → outcome_by replies (make told) (Some v) ≡ make number → (v ≡ verdict.Commit) × (told ≡ number)
+commits_with replies make one told number v is e =
+    let (commit, same) = by_commit replies (make told) (make number) v is e in
+    (commit, one told number same)
+
 commits : (replies : ℕ → ℕ) (told reply : ℕ) (v : Verdict) → outcome_by replies (outcome.Committed told) (Some v) ≡ outcome.Committed reply → (v ≡ verdict.Commit) × (told ≡ reply)
-commits replies told reply v e =
-    let (commit, same) = by_commit replies (outcome.Committed told) (outcome.Committed reply) v tt e in
-    (commit, one told reply same)
-  where
-    one : (a b : ℕ) → outcome.Committed a ≡ outcome.Committed b → a ≡ b
-    one a b e = cc
+commits replies told reply v = commits_with replies outcome.Committed (λ a b e. cc) told reply v tt
 
 module _ (s : SiteSetting) (known : Sessions) (entries : List Entry) (bytes : List ℕ) where
   pub last_verdict : HaveVerdicts → (v : Verdict) × (verdict_of s.setting (items_of (with_bytes s known entries bytes)) (suc (length entries)) ≡ Some v)

@@ -20,7 +20,7 @@ use Rattle.site_model.specs.Answer.{stored_as}
 use Rattle.site_model.proofs.StandingLemmas.{addition_cases, call_cases, stands_as_addition, stands_as_call, standing_cases}
 use Rattle.site_laws.specs.Added.{NamesProcedure}
 use Rattle.site_laws.specs.Nothing.{ChangesNothing}
-use Rattle.site_laws.proofs.LogLemmas.{HaveVerdicts, at_last, by_commit, last_verdict}
+use Rattle.site_laws.proofs.LogLemmas.{HaveVerdicts, at_last, by_commit, commits_with, last_verdict}
 use Rattle.site_laws.proofs.SettledLemmas.{stands_by}
 
 -- ---- an addition
@@ -91,12 +91,7 @@ never_added : (replies : ℕ → ℕ) (c : EntryOutcome) (number : ℕ) (v : Ver
 never_added replies c number v isnt e = isnt (by_commit replies c (outcome.Added number) v tt e).1
 
 adds : (replies : ℕ → ℕ) (told number : ℕ) (v : Verdict) → outcome_by replies (outcome.Added told) (Some v) ≡ outcome.Added number → (v ≡ verdict.Commit) × (told ≡ number)
-adds replies told number v e =
-    let (commit, same) = by_commit replies (outcome.Added told) (outcome.Added number) v tt e in
-    (commit, one told number same)
-  where
-    one : (a b : ℕ) → outcome.Added a ≡ outcome.Added b → a ≡ b
-    one a b e = cc
+adds replies told number v = commits_with replies outcome.Added (λ a b e. cc) told number v tt
 
 module _ (s : SiteSetting) (known : Sessions) (entries : List Entry) (bytes : List ℕ) where
   abbrev all : List Entry

@@ -45,7 +45,7 @@ use Rattle.bpf_bytes.specs.Decoding.{completed_load, program_of, reading_of_slot
 use Rattle.bpf_bytes.specs.Steps.{IsFirstHalf, IsHalf, half_bytes}
 use Rattle.bpf_bytes.proofs.DecodeLemmas.{first_bytes, slots_of-cons}
 use Rattle.bpf_bytes.proofs.SpellingLemmas.{instruction_bytes-short}
-use Rattle.site_laws.proofs.DecodingLemmas.{FieldsFit, below_half, by_first_half, fields_are, half_below, high_half, is_same, of_or_fault, of_slot, program_is, reads, where_unused, whole_slots, with_front_ok}
+use Rattle.site_laws.proofs.DecodingLemmas.{FieldsFit, below_half, by_first_half, fields_are, half_below, high_half, of_slot, program_is, read_parts, reads, whole_slots, with_front_ok}
 
 -- ---- what tests say
 
@@ -79,27 +79,26 @@ source_again b = by_test (b / 8 % 2 == 0) refl
     by_test true e = grind (arith, nat_tests)
     by_test false e = let other : b / 8 % 2 ≡ 1 = grind (arith, nat_tests) in sym other
 
-binary_again : (width : Width) (b : ℕ) (o : Opcode) → b % 8 ≡ arithmetic_class width → binary_of width b ≡ Some o → byte_of o ≡ b
-unfolding binary_of
-binary_again width b o class e = by_code (arithmetic_of (b / 16)) refl e
+-- an opcode that is made of what a table has under its upper bits
+again_by_number : {C : Type 0} (number : C → ℕ) (codes : List C) (make : C → Opcode) (b : ℕ) → ((c : C) → number c ≡ b / 16 → byte_of (make c) ≡ b)
+    → (o : Opcode) → option_map make (find (λ c. number c == b / 16) codes) ≡ Some o → byte_of o ≡ b
+again_by_number {C = C} number codes make b spelled o = by_code (find (λ c. number c == b / 16) codes) refl
   where
-    by_code : (c : Option ArithmeticCode) → arithmetic_of (b / 16) ≡ c → option_map (λ c. opcode.Arithmetic width c (source_of b)) c ≡ Some o → byte_of o ≡ b
+    by_code : (c : Option C) → find (λ c. number c == b / 16) codes ≡ c → option_map make c ≡ Some o → byte_of o ≡ b
     by_code None is h = absurd cc
     by_code (Some c) is h =
-        let number : arithmetic_number c ≡ b / 16 = let t = found_is (λ c. arithmetic_number c == b / 16) arithmetic_codes c is in grind (arith, nat_tests) in
-        let bit = source_again b in
-        subst (λ (x : Opcode). byte_of x ≡ b) (let same : opcode.Arithmetic width c (source_of b) ≡ o = cc in same) (omega arith)
+        let found : number c ≡ b / 16 = let t = found_is (λ c. number c == b / 16) codes c is in grind (arith, nat_tests) in
+        subst (λ (x : Opcode). byte_of x ≡ b) (let same : make c ≡ o = cc in same) (spelled c found)
+
+binary_again : (width : Width) (b : ℕ) (o : Opcode) → b % 8 ≡ arithmetic_class width → binary_of width b ≡ Some o → byte_of o ≡ b
+unfolding binary_of
+binary_again width b o class =
+    again_by_number arithmetic_number arithmetic_codes (λ c. opcode.Arithmetic width c (source_of b)) b (λ c number. let bit = source_again b in omega arith) o
 
 branch_again : (width : Width) (b : ℕ) (o : Opcode) → b % 8 ≡ jump_class width → branch_of width b ≡ Some o → byte_of o ≡ b
 unfolding branch_of
-branch_again width b o class e = by_condition (condition_of (b / 16)) refl e
-  where
-    by_condition : (c : Option Condition) → condition_of (b / 16) ≡ c → option_map (λ c. opcode.Branch width c (source_of b)) c ≡ Some o → byte_of o ≡ b
-    by_condition None is h = absurd cc
-    by_condition (Some c) is h =
-        let number : condition_number c ≡ b / 16 = let t = found_is (λ c. condition_number c == b / 16) conditions c is in grind (arith, nat_tests) in
-        let bit = source_again b in
-        subst (λ (x : Opcode). byte_of x ≡ b) (let same : opcode.Branch width c (source_of b) ≡ o = cc in same) (omega arith)
+branch_again width b o class =
+    again_by_number condition_number conditions (λ c. opcode.Branch width c (source_of b)) b (λ c number. let bit = source_again b in omega arith) o
 
 memory_again : (b : ℕ) (o : Opcode) → memory_of b ≡ Some o → byte_of o ≡ b
 unfolding memory_of
@@ -332,14 +331,9 @@ module _ (f : Fields) (i : Instruction) where
   spelled_as opcode.Exit dst src fit eo ed es none e = of_some instruction.Exit (slot_is opcode.Exit f 0 0 (pos 0) (pos 0) eo (none.dst refl) (none.src refl) (none.offset refl) (none.immediate refl)) e
 
 read_is_spelled : (f : Fields) (i : Instruction) → FieldsFit f → reading_of f ≡ Ok i → fields_of i ≡ f
-unfolding reading_of
 read_is_spelled f i fit e =
-    let (o, known, e1) = of_or_fault fault_cause.UnknownOpcode (opcode_of f.opcode) _ i e in
-    let (dst, known_dst, e2) = of_or_fault fault_cause.RegisterNumber (register_of f.dst) _ i e1 in
-    let (src, known_src, e3) = of_or_fault fault_cause.RegisterNumber (register_of f.src) _ i e2 in
-    let (unused, e4) = where_unused (unused_are_zero (uses_of o) f) _ i e3 in
-    let (made, is, e5) = of_or_fault fault_cause.UndefinedValue (instruction_of o dst src f) (λ x. Ok x) i e4 in
-    spelled_as f i o dst src fit (opcode_again f.opcode o known) (register_again f.dst dst known_dst) (register_again f.src src known_src) (are_zero (uses_of o) f unused) (is ∙ ap Some (is_same made i e5))
+    let (o, dst, src, known, known_dst, known_src, unused, is) = read_parts f i e in
+    spelled_as f i o dst src fit (opcode_again f.opcode o known) (register_again f.dst dst known_dst) (register_again f.src src known_src) (are_zero (uses_of o) f unused) is
 
 -- ---- all slots
 
