@@ -7,7 +7,9 @@ pub use requests::{
     too_late_is_so_for_good,
 };
 pub use rows::rows_go_on;
+pub use told::requests_done_before_are_told;
 
 mod next;
 mod requests;
 mod rows;
+mod told;
