@@ -5,6 +5,7 @@ import (
 	"fmt"
 	"net"
 	"os"
+	"sync"
 	"sync/atomic"
 )
 
@@ -16,12 +17,29 @@ const (
 	perProcess = 400
 )
 
-var taken atomic.Uint32
+var (
+	taken  atomic.Uint32
+	claims sync.Map // from each port of this process to its claim
+)
 
-// Free returns a port that nobody listened at a moment ago, and that this process was not given before.
+// claim takes a port for this process until it ends. A port has one claim on the machine: an abstract socket of its
+// name, which no other process can have meanwhile.
+func claim(port int) bool {
+	held, err := net.Listen("unix", fmt.Sprintf("@dsmdb-port-%d", port))
+	if err != nil {
+		return false
+	}
+	claims.Store(port, held)
+	return true
+}
+
+// Free returns a port that nobody listened at a moment ago, and that no process was given that still runs.
 func Free() (int, error) {
 	for tried := 0; tried < count; tried++ {
 		port := lowest + (os.Getpid()*perProcess+int(taken.Add(1)))%count
+		if !claim(port) {
+			continue
+		}
 		listener, err := net.Listen("tcp", fmt.Sprintf("127.0.0.1:%d", port))
 		if err == nil {
 			return port, listener.Close()

@@ -35,8 +35,26 @@ func TestATakenPortIsPassedOver(t *testing.T) {
 		t.Fatal(err)
 	}
 	defer listener.Close()
+	if held, ok := claims.LoadAndDelete(port); ok {
+		held.(net.Listener).Close()
+	}
 	taken.Add(^uint32(0)) // one back
 	if again, err := Free(); err != nil || again == port {
 		t.Errorf("%d again, %v", again, err)
+	}
+}
+
+func TestAPortOfAnotherProcessIsPassedOver(t *testing.T) {
+	port, err := Free()
+	if err != nil {
+		t.Fatal(err)
+	}
+	others, err := net.Listen("unix", fmt.Sprintf("@dsmdb-port-%d", port+1))
+	if err != nil {
+		t.Fatal(err)
+	}
+	defer others.Close()
+	if next, err := Free(); err != nil || next == port+1 {
+		t.Errorf("%d, %v: another process has that port", next, err)
 	}
 }
