@@ -166,18 +166,6 @@ func makerOf(mark *os.File) (batch.ID, error) {
 // Maker returns who this server is among those of its database.
 func (f *Folder) Maker() batch.ID { return f.maker }
 
-// Order returns the folder of the order of a number, which is made where it isn't there.
-func (f *Folder) Order(number uint64) (string, error) {
-	path := filepath.Join(f.path, fmt.Sprintf("order-%010d", number))
-	if err := os.Mkdir(path, 0o700); err == nil {
-		err = Force(f.path)
-		return path, err
-	} else if !errors.Is(err, fs.ErrExist) {
-		return "", err
-	}
-	return path, nil
-}
-
 // Socket returns the path of the Unix socket of the server.
 func (f *Folder) Socket() string { return filepath.Join(f.path, "socket") }
 

@@ -49,24 +49,9 @@ func OpenEtcd(options EtcdOptions) (*Etcd, error) {
 	if err := options.check(); err != nil {
 		return nil, err
 	}
-	hosts, secure, err := hostsOf(options.Endpoints)
+	all, err := options.members()
 	if err != nil {
 		return nil, err
-	}
-	template := remote{}
-	if secure {
-		if template.tls, err = options.tlsOf(); err != nil {
-			return nil, err
-		}
-	}
-	if options.Login != "" {
-		if template.login, err = loginOf(options.Login, secure); err != nil {
-			return nil, err
-		}
-	}
-	all := &nodes{}
-	for _, host := range hosts {
-		all.all = append(all.all, &remote{host: host, tls: template.tls, login: template.login})
 	}
 	return openEtcd(options, all)
 }
@@ -89,14 +74,19 @@ func OpenEmbedded(options EtcdOptions, embedded Embedded) (*Etcd, error) {
 	if err := options.check(); err != nil {
 		return nil, err
 	}
-	own := &member{kv: embedded.KV, watch: embedded.Watch}
-	return openEtcd(options, &nodes{all: []node{own}, home: true, compare: embedded.Compare})
+	return openEtcd(options, embedded.members())
+}
+
+// members returns the member in this process as all that there are.
+func (e *Embedded) members() *nodes {
+	own := &member{kv: e.KV, watch: e.Watch}
+	return &nodes{all: []node{own}, home: true, compare: e.Compare}
 }
 
 func openEtcd(options EtcdOptions, all *nodes) (*Etcd, error) {
 	e := &Etcd{
 		keys: keysOf(options.Prefix, options.Number), maker: options.Maker, secret: options.Secret, nodes: all,
-		log: options.Log, done: make(chan struct{}), rule: rule{secret: options.Secret},
+		log: options.Log, done: make(chan struct{}), rule: newRule(options.Secret, &options.Maker),
 	}
 	if e.log == nil {
 		e.log = func(string, ...any) {}

@@ -12,7 +12,8 @@ import (
 	"dsmdb/server/batch"
 )
 
-// EtcdOptions say where an order in etcd is, and how etcd is reached.
+// EtcdOptions say where an order in etcd is, and how etcd is reached. A Place sets Number, Maker and Journal for each of its
+// orders.
 type EtcdOptions struct {
 	Endpoints []string // http://HOST:PORT or https://HOST:PORT each
 	Prefix    string
@@ -43,7 +44,7 @@ func (o *EtcdOptions) check() error {
 		return fmt.Errorf("an order in etcd wants a prefix of 1 to %d bytes", longestPrefix)
 	}
 	if o.Number == 0 {
-		return errors.New("orders are numbered from 1")
+		return errNumber
 	}
 	if (o.Cert == "") != (o.Key == "") {
 		return errors.New("a certificate towards etcd and its key go together")
@@ -52,6 +53,30 @@ func (o *EtcdOptions) check() error {
 		return errors.New("a version of more than 255 bytes")
 	}
 	return nil
+}
+
+// members returns the members of etcd at the endpoints.
+func (o *EtcdOptions) members() (*nodes, error) {
+	hosts, secure, err := hostsOf(o.Endpoints)
+	if err != nil {
+		return nil, err
+	}
+	template := remote{}
+	if secure {
+		if template.tls, err = o.tlsOf(); err != nil {
+			return nil, err
+		}
+	}
+	if o.Login != "" {
+		if template.login, err = loginOf(o.Login, secure); err != nil {
+			return nil, err
+		}
+	}
+	all := &nodes{}
+	for _, host := range hosts {
+		all.all = append(all.all, &remote{host: host, tls: template.tls, login: template.login})
+	}
+	return all, nil
 }
 
 // hostsOf returns the hosts of endpoints, and whether they are reached by TLS.

@@ -85,20 +85,42 @@ func (e *Etcd) askEnd(ctx context.Context, anyway bool) error {
 		if !ok {
 			return nil
 		}
-		answer, err := e.nodes.rangeOf(ctx, &pb.RangeRequest{
-			Key: []byte(e.keys.from(floor)), RangeEnd: []byte(e.keys.end()), CountOnly: true,
-		})
+		keys, revision, err := e.countKeys(ctx, floor)
 		if err != nil {
 			e.endCount()
 			return err
 		}
-		wanted := &count{question, answer.Count, answer.Header.Revision, make(chan struct{})}
+		wanted := &count{question, keys, revision, make(chan struct{})}
 		if e.want(wanted, tallies) {
 			e.await(ctx, wanted)
 		}
 		e.endCount()
 	}
 	return nil
+}
+
+// countKeys returns how many keys etcd has from a hint on, and at which revision. The mark is read at the same revision:
+// where the order is gone keys are deleted, and their number says nothing of the order's end.
+func (e *Etcd) countKeys(ctx context.Context, hint uint64) (keys, revision int64, err error) {
+	asked := &pb.RangeRequest{Key: []byte(e.keys.from(hint)), RangeEnd: []byte(e.keys.end()), CountOnly: true}
+	both := &pb.TxnRequest{Success: []*pb.RequestOp{ranged(asked), ranged(e.keys.askMark())}}
+	answer, err := e.nodes.txn(ctx, both)
+	if err == nil {
+		return rangeIn(answer, 0).Count, answer.Header.Revision, e.keys.goneBy(rangeIn(answer, 1).Kvs)
+	}
+	if faultOf(ctx, err) != full {
+		return 0, 0, err
+	}
+	// an older etcd without space refuses transactions that only read, too; then the mark is read behind the number
+	counted, err := e.nodes.rangeOf(ctx, asked)
+	if err != nil {
+		return 0, 0, err
+	}
+	mark, err := e.nodes.rangeOf(ctx, e.keys.askMark())
+	if err != nil {
+		return 0, 0, err
+	}
+	return counted.Count, counted.Header.Revision, e.keys.goneBy(mark.Kvs)
 }
 
 // beginCount returns which questions a count answers, and from which hint on; false where none is wanted.

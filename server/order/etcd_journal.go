@@ -110,7 +110,7 @@ func (r *reader) readJournal(ctx context.Context) error {
 
 // openJournal opens the journal, and notes its batches. It returns the place of the last one.
 func (r *reader) openJournal(ctx context.Context) (log *segments.Log, last place, err error) {
-	check := rule{secret: r.secret}
+	check := newRule(r.secret, &r.maker)
 	r.history, r.values, r.bytes = history{}, 0, 0
 	options := segments.Options{Magic: JournalMagic, CutDamage: true, Forces: &r.journal.forces}
 	log, err = segments.Open(r.journal.path, options, func(kept []byte) error {
@@ -123,9 +123,6 @@ func (r *reader) openJournal(ctx context.Context) (log *segments.Log, last place
 		}
 		if !strings.HasPrefix(it.key, r.keys.folder) {
 			return fmt.Errorf("it is of another order: it has %s, and this order's keys begin with %s", it.key, r.keys.folder)
-		}
-		if check.counted == 0 {
-			r.first, _ = nameOf(it.key[len(r.keys.folder):])
 		}
 		return r.recount(&check, it, &last)
 	})
@@ -316,7 +313,7 @@ func (j *journal) valueOf(ctx context.Context, it *entryKept) ([]byte, error) {
 		return nil, err
 	}
 	if len(answer.Kvs) != 1 || answer.Kvs[0].ModRevision != it.revision {
-		return nil, ended("%w: %s, a batch of the order, isn't as it was", errPast, it.key)
+		return nil, j.etcd.goneOr(ctx, ended("%w: %s, a batch of the order, isn't as it was", errPast, it.key))
 	}
 	value := answer.Kvs[0].Value
 	if secret := j.etcd.secret; secret != nil {

@@ -32,6 +32,7 @@ type listing struct {
 	tally    *tally
 	next     byPlace // keys that aren't decided
 	unsigned int     // keys that are batches but for their signature
+	foreign  int     // keys that are batches of another database
 }
 
 // byPlace is a heap of keys.
@@ -55,15 +56,10 @@ func (h *byPlace) Pop() any {
 
 // list reads all that may count from here on, the first time all there is, and compares what has counted.
 func (r *reader) list(ctx context.Context) error {
-	l := &listing{reader: r, expected: r.history.end(), present: make([]bool, len(r.history.entries))}
-	if !r.whole {
-		l.from = floorOf(r.rule.counted)
+	l, err := r.beginListing(ctx)
+	if err != nil {
+		return err
 	}
-	r.mutex.Lock()
-	l.question = r.ends.asked
-	r.retally()
-	r.mutex.Unlock()
-	l.tally = newTally(r.keys.folder, floorOf(r.rule.counted))
 	start, upto := r.keys.from(l.from), l.from+span
 	if r.whole {
 		start = r.keys.folder
@@ -90,19 +86,37 @@ func (r *reader) list(ctx context.Context) error {
 	}
 }
 
+// beginListing begins a listing of the order as it stands at the revision that etcd has come to, where it isn't gone. The
+// mark of an order that is gone is put before anything of the order is deleted. So where the mark isn't there at a
+// revision, the order stands there whole, whatever is deleted while the listing goes on. And nothing of a half-deleted
+// order is counted by a server that was behind.
+func (r *reader) beginListing(ctx context.Context) (*listing, error) {
+	l := &listing{reader: r, expected: r.history.end(), present: make([]bool, len(r.history.entries))}
+	if !r.whole {
+		l.from = floorOf(r.rule.counted)
+	}
+	l.tally = newTally(r.keys.folder, floorOf(r.rule.counted))
+	r.mutex.Lock()
+	l.question = r.ends.asked
+	r.retally()
+	r.mutex.Unlock()
+	answer, err := r.nodes.rangeAgain(ctx, r.keys.askMark())
+	if err != nil {
+		return nil, err
+	}
+	l.revision = answer.Header.Revision
+	return l, r.keys.goneBy(answer.Kvs)
+}
+
 // ask asks for the names from a key up to a hint: etcd looks at all that there are in a range, however few it tells.
 func (l *listing) ask(ctx context.Context, start string, upto uint64) (*pb.RangeResponse, error) {
 	end := l.reader.keys.end()
 	if upto < everyHint {
 		end = l.reader.keys.from(upto)
 	}
-	answer, err := l.reader.nodes.rangeAgain(ctx, &pb.RangeRequest{
+	return l.reader.nodes.rangeAgain(ctx, &pb.RangeRequest{
 		Key: []byte(start), RangeEnd: []byte(end), Limit: l.reader.namesAtOnce(), KeysOnly: true, Revision: l.revision,
 	})
-	if err == nil && l.revision == 0 {
-		l.revision = answer.Header.Revision
-	}
-	return answer, err
 }
 
 // namesAtOnce returns how many names are asked for together. Etcd reads their values too, though it doesn't tell them.
@@ -167,7 +181,7 @@ func (l *listing) wanted(ctx context.Context, kv *mvccpb.KeyValue) (*stored, err
 			l.present[number-r.history.offset] = true
 		}
 		l.tally.add(it.key, true)
-		return nil, r.isUnchanged(ctx, it, r.history.at(number).revision)
+		return nil, isUnchanged(it, r.history.at(number).revision)
 	}
 	if r.decided.before(it.place()) {
 		return it, nil
@@ -255,6 +269,9 @@ func (l *listing) decide(ctx context.Context, complete uint64) error {
 		if !counts && isSignedOtherwise(r.secret, it.key, it.value) {
 			l.unsigned++
 		}
+		if !counts && r.rule.counted == 0 && r.rule.isOfAnother(it) {
+			l.foreign++
+		}
 		l.tally.add(it.key, counts)
 		r.decided = it.place()
 	}
@@ -272,11 +289,8 @@ func (l *listing) finish() error {
 			return ended("%w: %s, a batch of the order, isn't there any more", errPast, r.keys.of(it.name))
 		}
 	}
-	if r.rule.counted == 0 && l.unsigned > 0 {
-		if r.secret != nil {
-			return ended(oneRightWant, r.keys.folder)
-		}
-		return ended("the batches that stand in %s are signed under a secret, and this server has none", r.keys.folder)
+	if err := l.isOurs(); err != nil {
+		return err
 	}
 	r.whole = false
 	r.history.trim()
@@ -293,5 +307,21 @@ func (l *listing) finish() error {
 	r.ends.decided = l.revision
 	r.answered(l.question)
 	r.making.more.Broadcast()
+	return nil
+}
+
+// isOurs says what is wrong where batches stand in the order, and none of them counts.
+func (l *listing) isOurs() error {
+	r := l.reader
+	switch {
+	case r.rule.counted > 0:
+		return nil
+	case l.unsigned > 0 && r.secret != nil:
+		return ended(oneRightWant, r.keys.folder)
+	case l.unsigned > 0:
+		return ended("the batches that stand in %s are signed under a secret, and this server has none", r.keys.folder)
+	case l.foreign > 0 && r.whole: // a batch that comes later is a stranger's
+		return ended("the batches that stand in %s are of another database", r.keys.folder)
+	}
 	return nil
 }

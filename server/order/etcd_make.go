@@ -18,7 +18,7 @@ const mostOwn = 64
 // making is what this server appends. The order's mutex guards it.
 type making struct {
 	more     sync.Cond
-	database batch.ID // drawn for an order without batches
+	database batch.ID // drawn for an order without batches whose database nobody knows
 	waiting  []*String
 	wantVote bool
 	gather   gathering
@@ -155,11 +155,11 @@ func (e *Etcd) valueOf(key string, strings []*String) []byte {
 	return value
 }
 
-// database returns the identity of the order's database: that of the first batch, or the one drawn for it.
+// database returns the identity of the order's database: the one that is known, or the one drawn for the first batch.
 func (e *Etcd) database() batch.ID {
 	e.mutex.Lock()
 	defer e.mutex.Unlock()
-	if e.rule.begun {
+	if e.rule.known {
 		return e.rule.database
 	}
 	return e.making.database
@@ -209,20 +209,25 @@ func (e *Etcd) lastTry(own *ownMade) []byte {
 	return own.tries[len(own.tries)-1].value
 }
 
-// put puts a value where its key isn't there yet.
+// put puts a value where its key isn't there yet, and the order isn't gone.
 func (e *Etcd) put(ctx context.Context, key string, value []byte) error {
-	none := &pb.Compare{
+	put := &pb.RequestOp{Request: &pb.RequestOp_RequestPut{RequestPut: &pb.PutRequest{Key: []byte(key), Value: value}}}
+	answer, err := e.nodes.txn(ctx, &pb.TxnRequest{
+		Compare: []*pb.Compare{isAbsent(key), isAbsent(e.keys.mark())},
+		Success: []*pb.RequestOp{put},
+		Failure: []*pb.RequestOp{ranged(e.keys.askMark())},
+	})
+	if err != nil || answer.Succeeded {
+		return err
+	}
+	return e.keys.goneBy(rangeIn(answer, 0).Kvs)
+}
+
+// isAbsent compares a key with none.
+func isAbsent(key string) *pb.Compare {
+	return &pb.Compare{
 		Key: []byte(key), Target: pb.Compare_VERSION, Result: pb.Compare_EQUAL, TargetUnion: &pb.Compare_Version{},
 	}
-	put := &pb.RequestOp{Request: &pb.RequestOp_RequestPut{RequestPut: &pb.PutRequest{Key: []byte(key), Value: value}}}
-	asked := &pb.TxnRequest{Compare: []*pb.Compare{none}, Success: []*pb.RequestOp{put}}
-	return e.nodes.ask(ctx, func(ctx context.Context, kv pb.KVClient) (*pb.ResponseHeader, error) {
-		answer, err := kv.Txn(ctx, asked)
-		if err != nil {
-			return nil, err
-		}
-		return answer.Header, nil
-	})
 }
 
 // isRefused looks whether a batch stands in etcd though etcd has no space for it. Where it doesn't, its strings are

@@ -72,11 +72,17 @@ func hintOf(text string) (uint64, bool) {
 }
 
 // keys are those of one order.
-type keys struct{ folder string } // PREFIX/K/
+type keys struct {
+	number uint64
+	folder string // PREFIX/K/
+}
 
 func keysOf(prefix string, number uint64) keys {
-	return keys{fmt.Sprintf("%s/%d/", prefix, number)}
+	return keys{number, fmt.Sprintf("%s/%d/", prefix, number)}
 }
+
+// mark returns the key that is there once the order is forgotten: PREFIX/K.
+func (k keys) mark() string { return k.folder[:len(k.folder)-1] }
 
 // of returns the key of a name.
 func (k keys) of(n name) string { return k.folder + n.String() }
@@ -85,7 +91,7 @@ func (k keys) of(n name) string { return k.folder + n.String() }
 func (k keys) from(hint uint64) string { return fmt.Sprintf("%s%0*d", k.folder, hintDigits, hint) }
 
 // end returns the first key behind all of the order.
-func (k keys) end() string { return k.folder[:len(k.folder)-1] + string(rune('/'+1)) }
+func (k keys) end() string { return k.mark() + string(rune('/'+1)) }
 
 // floorOf returns the least hint that can count once so many batches have.
 func floorOf(counted uint64) uint64 {

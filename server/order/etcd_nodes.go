@@ -6,7 +6,6 @@ import (
 	"errors"
 	"fmt"
 	"math"
-	"net"
 	"strings"
 	"sync"
 	"sync/atomic"
@@ -33,7 +32,7 @@ type node interface {
 	// clients returns how the member is asked now, connected and logged in where need be.
 	clients(ctx context.Context) (pb.KVClient, pb.WatchClient, error)
 	// explain says more of a request that wasn't answered, where there is more to say.
-	explain(err error) error
+	explain(ctx context.Context, err error) error
 	// refuseToken has the next clients be logged in anew.
 	refuseToken()
 	close()
@@ -49,9 +48,9 @@ func (m *member) name() string { return "the member in this process" }
 func (m *member) clients(context.Context) (pb.KVClient, pb.WatchClient, error) {
 	return m.kv, m.watch, nil
 }
-func (m *member) explain(err error) error { return err }
-func (m *member) refuseToken()            {}
-func (m *member) close()                  {}
+func (m *member) explain(_ context.Context, err error) error { return err }
+func (m *member) refuseToken()                               {}
+func (m *member) close()                                     {}
 
 // remote is a member of etcd that is asked over the network, by a connection of its own. A request to a member that is
 // away fails at once: etcd's client would wait, and ask another member.
@@ -109,16 +108,20 @@ func (r *remote) options() []grpc.DialOption {
 
 // explain asks a member that only ends connections why: it may refuse this server's certificate, which gRPC keeps to
 // itself.
-func (r *remote) explain(err error) error {
+func (r *remote) explain(ctx context.Context, err error) error {
 	if r.tls == nil || status.Code(err) != codes.Unavailable || strings.Contains(wordsOf(err), "refused") {
 		return err
 	}
+	ctx, cancel := context.WithTimeout(ctx, longPause)
+	defer cancel()
 	config := r.tls.Clone()
 	config.NextProtos = []string{"h2"}
-	conn, fault := tls.DialWithDialer(&net.Dialer{Timeout: longPause}, "tcp", r.host, config)
+	conn, fault := (&tls.Dialer{Config: config}).DialContext(ctx, "tcp", r.host)
 	if fault == nil {
-		defer conn.Close()
-		conn.SetReadDeadline(time.Now().Add(longPause))
+		go func() { // ends the read
+			<-ctx.Done()
+			conn.Close()
+		}()
 		_, fault = conn.Read(make([]byte, 1))
 	}
 	if fault != nil && strings.Contains(fault.Error(), "tls: ") {
@@ -244,14 +247,34 @@ func (n *nodes) rangeOf(ctx context.Context, asked *pb.RangeRequest) (answer *pb
 	return answer, err
 }
 
-// rangeAgain asks for keys as rangeOf does, at each member once or twice, since much may depend on one answer.
-func (n *nodes) rangeAgain(ctx context.Context, asked *pb.RangeRequest) (answer *pb.RangeResponse, err error) {
+// txn asks for a transaction. A transaction that only reads is linearizable, too, and reads all at one revision.
+func (n *nodes) txn(ctx context.Context, asked *pb.TxnRequest) (answer *pb.TxnResponse, err error) {
+	err = n.ask(ctx, func(ctx context.Context, kv pb.KVClient) (*pb.ResponseHeader, error) {
+		if answer, err = kv.Txn(ctx, asked); err != nil {
+			return nil, err
+		}
+		return answer.Header, nil
+	})
+	return answer, err
+}
+
+// again asks at each member once or twice, since much may depend on one answer.
+func (n *nodes) again(ctx context.Context, ask func() error) error {
 	for failures := 1; ; failures++ {
-		answer, err = n.rangeOf(ctx, asked)
+		err := ask()
 		if err == nil || isEnd(err) || failures > 2*len(n.all) || faultOf(ctx, err) == compacted || !n.pause(ctx, failures) {
-			return answer, err
+			return err
 		}
 	}
+}
+
+// rangeAgain asks for keys as rangeOf does, again where need be.
+func (n *nodes) rangeAgain(ctx context.Context, asked *pb.RangeRequest) (answer *pb.RangeResponse, err error) {
+	err = n.again(ctx, func() error {
+		answer, err = n.rangeOf(ctx, asked)
+		return err
+	})
+	return answer, err
 }
 
 // rangeAt asks a member for keys as it has kept them, as far as the others have come.
@@ -278,7 +301,7 @@ func (n *nodes) failed(ctx context.Context, it node, err error) error {
 		return err
 	}
 	n.failures.Add(1)
-	why := explained(it.name(), it.explain(err))
+	why := explained(it.name(), it.explain(ctx, err))
 	if n.reach.failed(why) {
 		n.log("etcd: %v", why)
 	}

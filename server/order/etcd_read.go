@@ -1,7 +1,6 @@
 package order
 
 import (
-	"bytes"
 	"context"
 	"errors"
 	"fmt"
@@ -17,7 +16,6 @@ type reader struct {
 	history history
 	decided place // all keys up to here are decided
 	whole   bool  // whether the next listing is of all keys
-	first   name  // of the first batch that counted
 	atOnce  int64 // how many values are asked for together
 	values  int64 // how many have counted
 	bytes   int64 // of them
@@ -49,6 +47,9 @@ func (e *Etcd) read(ctx context.Context) error {
 		if err == nil {
 			err = r.watch(ctx)
 		}
+		if errors.Is(err, errPast) {
+			err = r.goneOr(ctx, err)
+		}
 		if isEnd(err) {
 			return err
 		}
@@ -67,9 +68,6 @@ func (e *Etcd) read(ctx context.Context) error {
 
 // decide decides whether a key that comes next is a batch that counts, and counts it.
 func (r *reader) decide(ctx context.Context, it *stored) (counts bool, err error) {
-	if !r.rule.begun && it.hint == 0 && it.version > 1 && isGone(it.value) {
-		return false, r.goneOrder(it.key)
-	}
 	if !r.rule.admits(it.hint) {
 		r.passOver(it)
 		return false, nil
@@ -99,9 +97,6 @@ func (r *reader) count(ctx context.Context, it *stored, found *batch.Batch) erro
 	}
 	if err := r.journal.add(ctx, it); err != nil {
 		return err
-	}
-	if r.history.end() == 0 {
-		r.first = it.name
 	}
 	r.history.add(it.name, it.create)
 	r.values, r.bytes = r.values+1, r.bytes+int64(len(it.value))
@@ -162,7 +157,7 @@ func (r *reader) askMembers(ctx context.Context, it *stored, why error) (*batch.
 // rightElsewhere is told of a key that isn't right as it was read first, and is as it was created.
 func (r *reader) rightElsewhere(it, kept *stored, found *batch.Batch, at node) (*batch.Batch, error) {
 	if it.version > 1 {
-		return nil, r.overwritten(it.key, it.value)
+		return nil, overwritten(it.key)
 	}
 	r.log("etcd: a member has a damaged copy of %s, and %s has it right", it.key, at.name())
 	*it = *kept
@@ -210,34 +205,18 @@ func (r *reader) storedOf(kv *mvccpb.KeyValue) (*stored, bool) {
 	return it, ok
 }
 
-// isGone returns whether the value of the first batch's key says that the order is gone.
-func isGone(value []byte) bool { return bytes.HasPrefix(value, []byte{0, 4}) }
-
-func (r *reader) goneOrder(key string) error {
-	return ended("this order is gone: another has taken its place, and %s says so", key)
-}
-
-func (r *reader) overwritten(key string, value []byte) error {
-	if found, ok := nameOf(key[len(r.keys.folder):]); ok && (r.history.end() == 0 || found == r.first) && isGone(value) {
-		return r.goneOrder(key)
-	}
+func overwritten(key string) error {
 	return ended("%w: %s, a batch of the order, was written again", errPast, key)
 }
 
 // isUnchanged says what is wrong with a key that has counted.
-func (r *reader) isUnchanged(ctx context.Context, it *stored, revision int64) error {
+func isUnchanged(it *stored, revision int64) error {
 	switch {
 	case it.create != revision:
 		return ended("%w: %s, a batch of the order, was made at revision %d and is now of revision %d",
 			errPast, it.key, revision, it.create)
 	case it.version != 1 || it.mod != it.create:
-		value := it.value
-		if answer, err := r.nodes.rangeOf(ctx, &pb.RangeRequest{Key: []byte(it.key)}); err != nil {
-			return err
-		} else if len(answer.Kvs) == 1 {
-			value = answer.Kvs[0].Value
-		}
-		return r.overwritten(it.key, value)
+		return overwritten(it.key)
 	case it.lease != 0:
 		return ended("%w: %s, a batch of the order, has a lease, so it will go", errPast, it.key)
 	}

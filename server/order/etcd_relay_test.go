@@ -24,8 +24,9 @@ type relay struct {
 	watch pb.WatchClient
 
 	mutex  sync.Mutex
-	txn    func(asked *pb.TxnRequest, answer *pb.TxnResponse) error     // after etcd has answered
-	before func(asked *pb.TxnRequest) error                             // before etcd is asked
+	txn    func(asked *pb.TxnRequest, answer *pb.TxnResponse) error     // after etcd has answered one that puts
+	before func(asked *pb.TxnRequest) error                             // before etcd is asked for one that puts
+	read   func(answer *pb.TxnResponse) error                           // after etcd has answered one that only reads
 	ranged func(asked *pb.RangeRequest, answer *pb.RangeResponse) error // after
 	told   func(answer *pb.WatchResponse) ([]*pb.WatchResponse, error)
 	opened func() // before a watch is opened
@@ -67,7 +68,7 @@ func (r *relay) does(change func()) {
 func (r *relay) hooks() relay {
 	r.mutex.Lock()
 	defer r.mutex.Unlock()
-	return relay{txn: r.txn, before: r.before, ranged: r.ranged, told: r.told, opened: r.opened}
+	return relay{txn: r.txn, before: r.before, read: r.read, ranged: r.ranged, told: r.told, opened: r.opened}
 }
 
 func (r *relay) Range(ctx context.Context, asked *pb.RangeRequest) (*pb.RangeResponse, error) {
@@ -80,6 +81,13 @@ func (r *relay) Range(ctx context.Context, asked *pb.RangeRequest) (*pb.RangeRes
 
 func (r *relay) Txn(ctx context.Context, asked *pb.TxnRequest) (*pb.TxnResponse, error) {
 	hooks := r.hooks()
+	if asked.Success[0].GetRequestPut() == nil {
+		answer, err := r.kv.Txn(ctx, asked)
+		if err == nil && hooks.read != nil {
+			err = hooks.read(answer)
+		}
+		return answer, err
+	}
 	if hooks.before != nil {
 		if err := hooks.before(asked); err != nil {
 			return nil, err

@@ -7,13 +7,19 @@ import (
 	"dsmdb/server/batch"
 )
 
-// rule says which batches count. It depends on the batches before alone, so all who read an order decide alike.
+// rule says which batches count. The rule depends on the batches before alone, and on the database's identity where that is
+// known from the beginning. So all who read an order decide alike, as long as all know the identity, or nobody does.
 type rule struct {
 	secret   *batch.Secret
 	counted  uint64 // batches
 	position uint64 // strings
 	database batch.ID
-	begun    bool // whether the first batch has counted
+	known    bool // whether the identity is known: from the beginning, or since the first batch has counted
+}
+
+// newRule returns the rule of an order without batches.
+func newRule(secret *batch.Secret, maker *Maker) rule {
+	return rule{secret: secret, database: maker.Database, known: maker.isKnown()}
 }
 
 // admits returns whether a right batch of a hint would count next.
@@ -68,13 +74,13 @@ func (r *rule) read(s *stored) (*batch.Batch, error) {
 	}
 	found, err := batch.Read(bytes)
 	var other *batch.FormError
-	if errors.As(err, &other) && !r.begun && (r.secret != nil || other.Form > 0 && other.Form < unknownForms) {
+	if errors.As(err, &other) && r.counted == 0 && (r.secret != nil || other.Form > 0 && other.Form < unknownForms) {
 		return nil, other
 	}
 	if err != nil {
 		return nil, fmt.Errorf("%w: %v", wrong, err)
 	}
-	if r.begun && found.Database != r.database {
+	if r.known && found.Database != r.database {
 		return nil, fmt.Errorf("%w: it is of another database", wrong)
 	}
 	return found, nil
@@ -83,10 +89,19 @@ func (r *rule) read(s *stored) (*batch.Batch, error) {
 // count counts a right batch that the rule admits, and returns the position of its first string.
 func (r *rule) count(found *batch.Batch) uint64 {
 	first := r.position + 1
-	r.database, r.begun = found.Database, true
+	r.database, r.known = found.Database, true
 	r.counted++
 	r.position += uint64(len(found.Strings))
 	return first
+}
+
+// isOfAnother returns whether a key is a right batch but for its database.
+func (r *rule) isOfAnother(s *stored) bool {
+	if !r.known {
+		return false
+	}
+	found, err := (&rule{secret: r.secret}).read(s)
+	return err == nil && found.Database != r.database
 }
 
 // isSignedOtherwise returns whether a value is a batch but for its signature: of another secret, or of one where this

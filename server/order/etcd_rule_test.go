@@ -85,6 +85,23 @@ func (m *memoryEtcd) Range(_ context.Context, asked *pb.RangeRequest, _ ...grpc.
 	return answer, nil
 }
 
+// Txn answers a transaction that only reads, where nothing is compared.
+func (m *memoryEtcd) Txn(ctx context.Context, asked *pb.TxnRequest, _ ...grpc.CallOption) (*pb.TxnResponse, error) {
+	answer := &pb.TxnResponse{Succeeded: true}
+	for _, it := range asked.Success {
+		found, err := m.Range(ctx, it.GetRequestRange())
+		if err != nil {
+			return nil, err
+		}
+		if answer.Header == nil {
+			answer.Header = found.Header
+		}
+		answer.Responses = append(answer.Responses, &pb.ResponseOp{
+			Response: &pb.ResponseOp_ResponseRange{ResponseRange: found}})
+	}
+	return answer, nil
+}
+
 // memoryStream is a watch, which ends now and then.
 type memoryStream struct {
 	grpc.ClientStream
@@ -141,7 +158,7 @@ func (s *memoryStream) Recv() (*pb.WatchResponse, error) {
 // opened opens an order over the etcd in memory, with a journal of its own or one that there is.
 func (m *memoryEtcd) opened(t *testing.T, journal string) *watched {
 	t.Helper()
-	w := &watched{t: t, own: map[*String]uint64{}, refused: map[*String]error{}, dropped: map[*String]bool{}}
+	w := newWatched(t)
 	options := EtcdOptions{Prefix: "dsmdb", Number: 1, Maker: maker, Journal: journal}
 	opened, err := OpenEmbedded(options, Embedded{KV: m, Watch: m})
 	if err != nil {

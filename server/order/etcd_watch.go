@@ -106,12 +106,18 @@ func (r *reader) take(ctx context.Context, events []*mvccpb.Event) error {
 		a, b := events[i].Kv, events[j].Kv
 		return place{a.ModRevision, string(a.Key)}.before(place{b.ModRevision, string(b.Key)})
 	})
-	decided := r.decided.revision
+	decided, deleted := r.decided.revision, false
 	for _, it := range events {
 		if it.Kv.ModRevision <= decided {
 			continue
 		}
 		if err := r.happened(ctx, it); err != nil {
+			return err
+		}
+		deleted = deleted || it.Type == mvccpb.DELETE
+	}
+	if deleted { // keys that don't count may be the first that go with the order
+		if err := r.goneOr(ctx, nil); err != nil {
 			return err
 		}
 	}
@@ -145,7 +151,7 @@ func (r *reader) happened(ctx context.Context, event *mvccpb.Event) error {
 	if it.version != 1 {
 		counted, err := r.isCounted(ctx, it, ok)
 		if counted {
-			return r.overwritten(it.key, it.value)
+			return overwritten(it.key)
 		}
 		return err
 	}

@@ -31,16 +31,23 @@ type watched struct {
 	slow    time.Duration
 }
 
+func newWatched(t *testing.T) *watched {
+	return &watched{t: t, own: map[*String]uint64{}, refused: map[*String]error{}, dropped: map[*String]bool{}}
+}
+
+// hear notes what the log says.
+func (w *watched) hear(format string, args ...any) {
+	w.mutex.Lock()
+	defer w.mutex.Unlock()
+	w.said = append(w.said, fmt.Sprintf(format, args...))
+}
+
 // opened opens an order over etcd, and takes its events.
 func (c *etcds) opened(change func(*EtcdOptions)) *watched {
 	c.t.Helper()
 	options := EtcdOptions{Endpoints: c.endpoints(), Prefix: "dsmdb", Number: 1, Maker: maker, Journal: c.t.TempDir()}
-	w := &watched{t: c.t, own: map[*String]uint64{}, refused: map[*String]error{}, dropped: map[*String]bool{}}
-	options.Log = func(format string, args ...any) {
-		w.mutex.Lock()
-		defer w.mutex.Unlock()
-		w.said = append(w.said, fmt.Sprintf(format, args...))
-	}
+	w := newWatched(c.t)
+	options.Log = w.hear
 	if change != nil {
 		change(&options)
 	}

@@ -41,7 +41,7 @@ func (l *Log) read(kept []byte, take func(found *batch.Batch) error) error {
 	if err != nil {
 		return fmt.Errorf("behind position %d: %w", l.position, err)
 	}
-	if l.begun && found.Database != l.database {
+	if l.isOfAnother(found) {
 		return fmt.Errorf("behind position %d: a batch of another database", l.position)
 	}
 	l.database, l.begun = found.Database, true
@@ -49,10 +49,18 @@ func (l *Log) read(kept []byte, take func(found *batch.Batch) error) error {
 	return take(found)
 }
 
+// isOfAnother returns whether a batch that comes next is of another database than the order.
+func (l *Log) isOfAnother(found *batch.Batch) bool {
+	if l.begun {
+		return found.Database != l.database
+	}
+	return l.maker.isKnown() && found.Database != l.maker.Database
+}
+
 // Position returns how many strings the order has.
 func (l *Log) Position() uint64 { return l.position }
 
-// Database returns the identity of the database, which is drawn with the first batch; false where there is none yet.
+// Database returns the identity of the database, as the first batch has it; false where there is no batch yet.
 func (l *Log) Database() (batch.ID, bool) { return l.database, l.begun }
 
 // Room returns how many bytes the strings of one batch may take, each by batch.SizeOf.
@@ -89,10 +97,13 @@ func (l *Log) Append(strings [][]byte, vote batch.Vote) (*batch.Batch, error) {
 	return made, nil
 }
 
-// identity returns the database's identity, drawn where the order has no batch yet.
+// identity returns the database's identity, drawn where the order has no batch yet and nobody knows it.
 func (l *Log) identity() (batch.ID, error) {
-	if l.begun {
+	switch {
+	case l.begun:
 		return l.database, nil
+	case l.maker.isKnown():
+		return l.maker.Database, nil
 	}
 	var drawn batch.ID
 	if _, err := rand.Read(drawn[:]); err != nil {

@@ -116,7 +116,7 @@ func TestAnOrderOfTheOldFormIsLeftAsItWas(t *testing.T) {
 
 // The sum by `sha256sum`.
 func TestStringsOfServers(t *testing.T) {
-	first := First([]byte("window 4\n"))
+	first := First([]byte("window 4\n"), false)
 	if hex.EncodeToString(first) != "0001"+"a326bf2aac9c462288b40aea87c3e7e9d9822eaf9bab437760a23e6d6d444bbd" {
 		t.Errorf("%x", first)
 	}

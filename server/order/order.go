@@ -15,6 +15,8 @@ var (
 	ErrFull = errors.New("the order is full")
 	// ErrUnknown says that strings may have been appended, or may still be.
 	ErrUnknown = errors.New("it isn't known whether the order has them")
+	// ErrGone says that the order was forgotten: all of it is deleted, or will be.
+	ErrGone = errors.New("the order is gone")
 )
 
 // Order is one order, which works in goroutines of its own. Its methods may be called from any goroutine.
@@ -109,10 +111,16 @@ func (End) isEvent()      {}
 type Maker struct {
 	ID      batch.ID
 	Version string // of the program, at most 255 bytes
+	// Database is the identity that the order's database has. Zeros say that the identity isn't known: then a new order
+	// draws one with its first batch.
+	Database batch.ID
 	// Vote returns what the maker's engine has come to. It may be called from any goroutine. Nil stands for a vote at
 	// position 0 without digests.
 	Vote func() batch.Vote
 }
+
+// isKnown returns whether the identity of the order's database is known.
+func (m *Maker) isKnown() bool { return m.Database != batch.ID{} }
 
 func (m *Maker) vote() batch.Vote {
 	if m.Vote == nil {

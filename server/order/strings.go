@@ -8,7 +8,8 @@ import (
 
 // Strings that servers make for themselves begin with 00, so that they are nothing to a site:
 //
-//	00 01  and the SHA-256 of the settings: the first of an order
+//	00 01  and the SHA-256 of the settings: the first of an order. 02 behind it says that the order opens sessions, and
+//	       can end
 //	00 02  and 16 random bytes: a session, whose number is its position
 //	00     alone: what an order is made longer by
 
@@ -16,9 +17,13 @@ import (
 var Filling = []byte{0}
 
 // First returns the string that an order for these settings begins with.
-func First(settings []byte) []byte {
+func First(settings []byte, opensSessions bool) []byte {
 	sum := sha256.Sum256(settings)
-	return append([]byte{0, 1}, sum[:]...)
+	first := append([]byte{0, 1}, sum[:]...)
+	if opensSessions {
+		first = append(first, 2)
+	}
+	return first
 }
 
 // NewSession returns a string whose position is a session's number.
@@ -34,8 +39,8 @@ func NewSession() ([]byte, error) {
 // IsOfServers returns whether a string has the form of one that servers make for themselves.
 func IsOfServers(text []byte) bool {
 	switch len(text) {
-	case 34:
-		return text[0] == 0 && text[1] == 1
+	case 34, 35:
+		return text[0] == 0 && text[1] == 1 && (len(text) == 34 || text[34] == 2)
 	case 18:
 		return text[0] == 0 && text[1] == 2
 	case 1:
