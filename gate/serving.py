@@ -11,7 +11,7 @@ import programs
 from building import say
 from workspace import ROOT
 
-WORDS = ("serve", "begin", "join", "call", "add", "rows", "session", "status", "token", "demo")
+WORDS = ("serve", "begin", "join", "call", "add", "rows", "session", "status", "token", "demo", "dump", "roll", "fetch", "forget")
 FOLDER = f"{ROOT}/server"
 BUILT = f"{ROOT}/out/server/dsmdb-server"
 CACHE = f"{ROOT}/out/server/cache"  # of Go's compiler

@@ -23,7 +23,7 @@ type Right string
 // The rights of a roles file.
 const (
 	Add    Right = "add"    // procedures
-	Read   Right = "rows"   // all rows
+	Read   Right = "rows"   // all rows, dumps and settings among them
 	Roll   Right = "roll"   // an order
 	Join   Right = "join"   // a member
 	Forget Right = "forget" // old orders
@@ -231,8 +231,10 @@ func (w *Who) May(ask wire.Ask, now time.Time) error {
 		return nil
 	case *wire.Add:
 		return w.Has(Add)
-	case wire.Rows, *wire.Scan:
+	case wire.Rows, *wire.Scan, wire.Dump, wire.Settings:
 		return w.Has(Read)
+	case *wire.Roll:
+		return w.Has(Roll)
 	}
 	return nil
 }

@@ -27,7 +27,7 @@ const longestBody = 1 << 20 // bytes of a request
 
 // Options are what a handler is made of.
 type Options struct {
-	Site    *site.Site
+	Site    *site.Database
 	Policy  *access.Policy
 	Layout  *layout.Layout // nil for none
 	Hosts   []string       // names under which the server is reached, besides loopback addresses
@@ -243,7 +243,7 @@ func (h *Handler) session(w http.ResponseWriter, r *http.Request) {
 	}
 	found, _ := h.Site.Snapshot()
 	write(w, http.StatusCreated, map[string]any{
-		"session": number(answer.At), "database": hex.EncodeToString(found.Database[:]), "order": "1",
+		"session": number(answer.At), "database": hex.EncodeToString(found.Database[:]), "order": number(found.Order),
 		"position": number(found.Position), "ahead": number(found.Ahead),
 	})
 }
@@ -436,6 +436,18 @@ func (h *Handler) ready(w http.ResponseWriter, _ *http.Request) {
 	io.WriteString(w, "ok\n")
 }
 
+// orders tells of the orders that are known, and where each but the last one ended.
+func (h *Handler) orders() []map[string]string {
+	all := []map[string]string{}
+	for _, it := range h.Site.Spans() {
+		if len(all) > 0 {
+			all[len(all)-1]["end"] = number(it.Before)
+		}
+		all = append(all, map[string]string{"order": number(it.Number), "before": number(it.Before)})
+	}
+	return all
+}
+
 func (h *Handler) status(w http.ResponseWriter, _ *http.Request) {
 	found, is := h.Site.Snapshot()
 	if !is {
@@ -443,7 +455,8 @@ func (h *Handler) status(w http.ResponseWriter, _ *http.Request) {
 		return
 	}
 	it := map[string]any{
-		"server": h.Name, "database": hex.EncodeToString(found.Database[:]), "order": "1", "position": number(found.Position), "end": number(found.End),
+		"server": h.Name, "database": hex.EncodeToString(found.Database[:]), "order": number(found.Order), "before": number(found.Before),
+		"orders": h.orders(), "position": number(found.Position), "end": number(found.End),
 		"ahead": number(found.Ahead), "digest": hex.EncodeToString(found.Digest[:]),
 		"committed": number(found.Counts.Committed), "refused": number(found.Counts.Refused), "nothing": number(found.Counts.Nothing),
 		"untrue": number(found.Counts.Untrue), "caught_up": found.CaughtUp, "order_reached": found.Away == "",

@@ -11,6 +11,7 @@ import (
 	"strconv"
 	"strings"
 
+	"dsmdb/server/ends"
 	"dsmdb/server/site"
 )
 
@@ -163,11 +164,8 @@ func FromString(text string) (*Layout, error) {
 // names.
 func (l *Layout) Check(settings []byte) error {
 	widths := map[int]int{}
-	for _, line := range bytes.Split(settings, []byte{'\n'}) {
-		var number, width int
-		if count, _ := fmt.Sscanf(string(line), "table %d %d", &number, &width); count == 2 {
-			widths[number] = width
-		}
+	for _, it := range ends.Read(settings).Tables {
+		widths[int(it.Number)] = int(it.Width)
 	}
 	for _, it := range l.Tables {
 		if widths[int(it.Number)] != it.Width {

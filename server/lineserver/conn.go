@@ -3,6 +3,7 @@ package lineserver
 import (
 	"bytes"
 	"context"
+	"fmt"
 	"strings"
 	"sync"
 	"time"
@@ -176,6 +177,8 @@ func (c *conn) takeLine(text []byte, some *[]*site.Request) bool {
 		c.answerAtOnce(line.Tag, "layout "+c.server.Layout.String())
 	case *wire.Join:
 		c.invite(line.Tag, ask)
+	case *wire.Forget:
+		c.forget(line.Tag, ask)
 	default:
 		if why := c.refusal(ask); why != "" {
 			c.answerAtOnce(line.Tag, why)
@@ -205,14 +208,35 @@ func needsRows(ask wire.Ask) bool {
 	return true
 }
 
-// invite takes a new member into the cluster. The connection's other lines wait meanwhile.
+// invite takes a new member into the cluster.
 func (c *conn) invite(tag string, ask *wire.Join) {
-	if err := c.who.Has(access.Join); err != nil {
-		c.answerAtOnce(tag, "refused "+err.Error())
+	if c.server.Invite == nil && c.who.Has(access.Join) == nil {
+		c.answerAtOnce(tag, "refused no-cluster")
 		return
 	}
-	if c.server.Invite == nil {
-		c.answerAtOnce(tag, "refused no-cluster")
+	c.carryOut(tag, "join", access.Join, func(ctx context.Context) (string, error) {
+		members, err := c.server.Invite(ctx, ask.Name, ask.Place)
+		return "invited " + members, err
+	})
+}
+
+// forget deletes old orders.
+func (c *conn) forget(tag string, ask *wire.Forget) {
+	c.carryOut(tag, "forget", access.Forget, func(ctx context.Context) (string, error) {
+		deleted, err := c.server.Forget(ctx, ask.Below)
+		text := "forgot"
+		for _, number := range deleted {
+			text += fmt.Sprintf(" %d", number)
+		}
+		return text, err
+	})
+}
+
+// carryOut does what a line asks for that takes a while, where who asks has the right. The connection's other lines wait
+// meanwhile.
+func (c *conn) carryOut(tag, word string, right access.Right, do func(ctx context.Context) (string, error)) {
+	if err := c.who.Has(right); err != nil {
+		c.answerAtOnce(tag, "refused "+err.Error())
 		return
 	}
 	c.mutex.Lock()
@@ -221,10 +245,9 @@ func (c *conn) invite(tag string, ask *wire.Join) {
 	go func() {
 		ctx, cancel := context.WithTimeout(context.Background(), time.Minute)
 		defer cancel()
-		members, err := c.server.Invite(ctx, ask.Name, ask.Place)
-		text := "invited " + members
+		text, err := do(ctx)
 		if err != nil {
-			text = "refused join " + strings.ReplaceAll(err.Error(), "\n", " ")
+			text = "refused " + word + " " + strings.ReplaceAll(err.Error(), "\n", " ")
 		}
 		c.mutex.Lock()
 		c.busy = false

@@ -53,9 +53,10 @@ func serving(t *testing.T, limits Limits, rows string, try func(t *testing.T, s 
 		t.Run(kind, func(t *testing.T) {
 			over := order.OpenLocal(t.TempDir(), order.Maker{ID: batch.ID{1}})
 			quiet := func(string, ...any) {}
-			running := site.New(site.Options{
-				Order: over, Maker: batch.ID{1}, Patience: time.Minute, Say: quiet, Warn: quiet,
-				Start: func(context.Context) (site.Engine, error) {
+			running := site.NewDatabase(site.DatabaseOptions{
+				Site: site.Options{Number: 1, Maker: batch.ID{1}, Patience: time.Minute, Say: quiet, Warn: quiet},
+				Open: func(uint64, batch.ID, func() batch.Vote) (order.Order, error) { return over, nil },
+				Start: func(context.Context, []byte) (site.Engine, error) {
 					return &engineOf{answers: make(chan []byte, 100), rows: rows}, nil
 				},
 			})
@@ -76,7 +77,10 @@ func serving(t *testing.T, limits Limits, rows string, try func(t *testing.T, s 
 				serve = func() error { return serveStreamed(s, listener) }
 			}
 			go func() { ended <- serve() }()
-			for running.Vote().Position == 0 { // up to the order's first string
+			for { // up to the order's first string
+				if found, is := running.Snapshot(); is && found.Position > 0 {
+					break
+				}
 				time.Sleep(time.Millisecond)
 			}
 			try(t, s, func() net.Conn {
@@ -96,7 +100,6 @@ func serving(t *testing.T, limits Limits, rows string, try func(t *testing.T, s 
 					t.Error(err)
 				}
 			}
-			over.Close()
 		})
 	}
 }

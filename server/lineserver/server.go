@@ -32,12 +32,14 @@ var DefaultLimits = Limits{Connections: 20_000, Requests: 1_024, Bytes: 4 << 20,
 
 // Server answers lines by a site.
 type Server struct {
-	Site   *site.Site
+	Site   *site.Database
 	Policy *access.Policy
 	Layout *layout.Layout // nil for none
 	Limits Limits
 	// Invite takes a new member into the cluster, and returns all members; nil where there is no cluster.
 	Invite func(ctx context.Context, name, place string) (members string, err error)
+	// Forget deletes all orders below a number, and returns the numbers of those that it deleted.
+	Forget func(ctx context.Context, below uint64) (deleted []uint64, err error)
 	// Warn is told of connections that can't be taken. It never waits.
 	Warn func(format string, values ...any)
 

@@ -6,7 +6,6 @@ import (
 
 	"dsmdb/server/durations"
 	"dsmdb/server/lineserver"
-	"dsmdb/server/order"
 	"dsmdb/server/site"
 	"github.com/prometheus/client_golang/prometheus"
 	"github.com/prometheus/client_golang/prometheus/collectors"
@@ -14,15 +13,14 @@ import (
 )
 
 // New returns the handler of a server's metrics.
-func New(of *site.Site, order order.Order, lines *lineserver.Server) http.Handler {
+func New(of *site.Database, lines *lineserver.Server) http.Handler {
 	all := prometheus.NewRegistry()
-	all.MustRegister(collectors.NewGoCollector(), collectors.NewProcessCollector(collectors.ProcessCollectorOpts{}), &collector{of, order, lines})
+	all.MustRegister(collectors.NewGoCollector(), collectors.NewProcessCollector(collectors.ProcessCollectorOpts{}), &collector{of, lines})
 	return promhttp.HandlerFor(all, promhttp.HandlerOpts{})
 }
 
 type collector struct {
-	site  *site.Site
-	order order.Order
+	site  *site.Database
 	lines *lineserver.Server
 }
 
@@ -31,8 +29,9 @@ func desc(name, help string, labels ...string) *prometheus.Desc {
 }
 
 var (
-	position     = desc("position", "Strings of the order that the engine has answered.")
-	end          = desc("end", "Strings of the order that the server has read.")
+	number       = desc("order", "Number of the order among those of its database.")
+	position     = desc("position", "Strings of all orders that the engine has answered.")
+	end          = desc("end", "Strings of all orders that the server has read.")
 	backlog      = desc("backlog_bytes", "Bytes of strings that wait for the engine.")
 	texts        = desc("strings_total", "What became of the order's strings.", "as")
 	answers      = desc("answers_total", "What requests were answered.", "answer")
@@ -59,7 +58,7 @@ var (
 // Describe implements prometheus.Collector.
 func (c *collector) Describe(to chan<- *prometheus.Desc) {
 	for _, it := range []*prometheus.Desc{
-		position, end, backlog, texts, answers, latency, appends, forces, etcdFailures, batches, strangers, waiting, engineLines, engineTime,
+		number, position, end, backlog, texts, answers, latency, appends, forces, etcdFailures, batches, strangers, waiting, engineLines, engineTime,
 		engineMemory, restarts, dropped, retried, connections, refusedDesc, caughtUp, orderReached, divergence,
 	} {
 		to <- it
@@ -83,14 +82,15 @@ func (c *collector) Collect(metrics chan<- prometheus.Metric) {
 	open, refused := c.lines.Open()
 	to.gauge(connections, float64(open))
 	to.counter(refusedDesc, refused)
-	if etcd, is := c.order.(interface {
+	order := c.site.Order()
+	if etcd, is := order.(interface {
 		Strangers() uint64
 		Failures() uint64
 	}); is {
 		to.counter(strangers, etcd.Strangers())
 		to.counter(etcdFailures, etcd.Failures())
 	}
-	if disk, is := c.order.(interface{ Forces() durations.Histogram }); is {
+	if disk, is := order.(interface{ Forces() durations.Histogram }); is {
 		to.histogram(forces, disk.Forces())
 	}
 	if it, is := c.site.Snapshot(); is {
@@ -99,6 +99,7 @@ func (c *collector) Collect(metrics chan<- prometheus.Metric) {
 }
 
 func (to sink) snapshot(it *site.Snapshot) {
+	to.gauge(number, float64(it.Order))
 	to.gauge(position, float64(it.Position))
 	to.gauge(end, float64(it.End))
 	to.gauge(backlog, float64(it.Backlog))

@@ -22,13 +22,14 @@ const (
 	Taken          // Text says which rule the name or the number breaks
 	Session        // of number At
 	Rows           // Lines has them
+	Rolled         // order At goes on; Text says whether by this request
 	Text           // Text is the line
 	kinds
 )
 
 var words = [kinds]string{
 	"", "committed", "read", "cancelled", "conflict", "stale", "other", "late", "refused", "full", "unknown", "added", "taken",
-	"session", "rows", "",
+	"session", "rows", "rolled", "",
 }
 
 // String returns the word with which a line of this kind begins.
@@ -62,6 +63,18 @@ func (a *Answer) IsFinal() bool {
 	return false
 }
 
+// behind returns an answer by positions of an order, as one by positions of the database, of which some came before.
+func (a Answer) behind(before uint64) Answer {
+	switch a.Kind {
+	case Conflict:
+		a.Value += before
+		a.At += before
+	case Committed, Read, Cancelled, Stale, Other, Late:
+		a.At += before
+	}
+	return a
+}
+
 // AppendLine appends the line of an answer that isn't of rows, without LF.
 func (a *Answer) AppendLine(to []byte) []byte {
 	to = append(to, words[a.Kind]...)
@@ -76,6 +89,8 @@ func (a *Answer) AppendLine(to []byte) []byte {
 		return appendNumber(to, a.At)
 	case Refused, Taken, Unknown:
 		return append(append(to, ' '), a.Text...)
+	case Rolled:
+		return append(append(appendNumber(to, a.At), ' '), a.Text...)
 	case Text:
 		return append(to, a.Text...)
 	}

@@ -4,6 +4,8 @@ import (
 	"bytes"
 	"fmt"
 	"time"
+
+	"dsmdb/server/wire"
 )
 
 // takeAnswers takes in lines of the engine.
@@ -17,8 +19,11 @@ func (s *Site) takeAnswers(lines []byte, is bool) error {
 		if s.pending.len() == 0 {
 			return &Stopped{"the engine answers what it wasn't asked"}
 		}
-		if s.pending.first().kind == forRows {
-			lines = s.rowsSaid(lines)
+		if s.pending.first().kind.hasLines() {
+			var err error
+			if lines, err = s.linesSaid(lines); err != nil {
+				return err
+			}
 			continue
 		}
 		end := bytes.IndexByte(lines, '\n')
@@ -54,44 +59,52 @@ func (s *Site) answered(it pending, line []byte) error {
 	}
 }
 
-// rowsSaid takes in lines of rows, up to that of their position, and returns the rest.
-func (s *Site) rowsSaid(lines []byte) []byte {
-	r := s.pending.first().of
-	end := positionIn(lines)
-	if end < 0 {
-		s.spool.write(lines)
-		return nil
+// hasLines returns whether an answer is of lines, up to one of another kind.
+func (k pendingKind) hasLines() bool { return k == forRows || k == forDump || k == forNext }
+
+// endsLines returns whether a line is the last of an answer.
+func (k pendingKind) endsLines(line []byte) bool {
+	if k == forRows {
+		return line[0] != ' '
+	}
+	return bytes.HasPrefix(line, []byte("position "))
+}
+
+// linesSaid takes in lines of an answer, up to that of their position, and returns the rest.
+func (s *Site) linesSaid(lines []byte) ([]byte, error) {
+	it := *s.pending.first()
+	end := 0
+	for end < len(lines) && !it.kind.endsLines(lines[end:]) {
+		end += bytes.IndexByte(lines[end:], '\n') + 1
 	}
 	s.spool.write(lines[:end])
-	last := lines[end : end+bytes.IndexByte(lines[end:], '\n')]
-	s.pending.pop()
-	s.rowsEnd(r, last)
-	return lines[end+len(last)+1:]
-}
-
-// positionIn returns where the line begins that isn't of a row; below zero where all lines are.
-func positionIn(lines []byte) int {
-	for at := 0; at < len(lines); {
-		if lines[at] != ' ' {
-			return at
-		}
-		at += bytes.IndexByte(lines[at:], '\n') + 1
+	if end == len(lines) {
+		return nil, nil
 	}
-	return -1
+	last := lines[end : end+bytes.IndexByte(lines[end:], '\n')]
+	rest := lines[end+len(last)+1:]
+	s.pending.pop()
+	if it.kind == forNext {
+		return rest, s.dumped(last)
+	}
+	s.linesEnd(it.of, last)
+	return rest, nil
 }
 
-// rowsEnd answers a request for rows by what the engine printed.
-func (s *Site) rowsEnd(r *Request, last []byte) {
+// linesEnd answers a request for rows, or for a dump, by what the engine printed.
+func (s *Site) linesEnd(r *Request, last []byte) {
 	lines := s.spool
 	s.spool, s.spooling = nil, nil
-	switch _, err := fmt.Sscanf(string(last), "position %d rows %d", &lines.Position, &lines.Count); {
+	what, err := lines.readLast(last)
+	switch {
 	case lines.failed != nil:
 		s.warn("%v", lines.failed)
 		s.tell(r, Answer{Kind: Unknown, Text: "room"})
 	case err != nil: // a fault, or a refusal
 		s.tell(r, Answer{Kind: Text, Text: string(last)})
 	case !r.done.Load():
-		lines.write(append(append([]byte(nil), last...), '\n'))
+		lines.Position += s.before
+		lines.write([]byte(fmt.Sprintf("position %d %s %d\n", lines.Position, what, lines.Count)))
 		s.tell(r, Answer{Kind: Rows, At: lines.Position, Lines: lines})
 		return
 	}
@@ -109,7 +122,11 @@ func (s *Site) askRows() {
 		}
 		s.spooling, s.spool = r, &Spool{}
 		s.out = append(append(s.out, r.Ask.(fmt.Stringer).String()...), '\n')
-		s.pending.push(pending{forRows, r})
+		kind := forRows
+		if _, is := r.Ask.(wire.Dump); is {
+			kind = forDump
+		}
+		s.pending.push(pending{kind, r})
 	}
 }
 

@@ -23,10 +23,11 @@ func (s *Site) arrive(r *Request) {
 	if s.now.IsZero() {
 		s.now = time.Now()
 	}
-	r.began = s.now
-	r.deadline = s.now.Add(s.patience)
-	if call := r.call(); call != nil && call.Within > 0 {
-		r.deadline = s.now.Add(call.Within)
+	if r.began.IsZero() { // else an earlier order's site has handed it over
+		r.began, r.deadline = s.now, s.now.Add(s.patience)
+		if call := r.call(); call != nil && call.Within > 0 {
+			r.deadline = s.now.Add(call.Within)
+		}
 	}
 	s.asking.add(r)
 	switch r.Ask.(type) {
@@ -62,13 +63,20 @@ func (s *Site) admit(r *Request) {
 
 func (s *Site) admitCall(r *Request, call *wire.Call) {
 	r.after = s.beginning
-	if call.After > r.after {
-		r.after = call.After
+	if call.After > s.before && call.After-s.before > r.after {
+		r.after = call.After - s.before
 	}
-	if !call.Fresh {
+	r.fresh = call.Fresh
+	if call.Fresh {
+		s.askFresh(r, call)
+	} else {
 		s.place(r)
-		return
 	}
+}
+
+// askFresh has a call begin on rows of the order's end, as it is asked for now.
+func (s *Site) askFresh(r *Request, call *wire.Call) {
+	r.fresh = true
 	if call.After > 0 {
 		r.padding = s.now.Add(fillAfter)
 		if half := s.now.Add(r.deadline.Sub(s.now) / 2); half.Before(r.padding) {
@@ -81,7 +89,7 @@ func (s *Site) admitCall(r *Request, call *wire.Call) {
 
 // askReady hands the engine what may begin where it is.
 func (s *Site) askReady() {
-	if s.restarting != nil {
+	if s.restarting != nil || s.ending != nil {
 		return
 	}
 	for len(s.behind) > 0 && s.behind[0].for_ <= s.fed {
@@ -103,7 +111,7 @@ func (s *Site) askReady() {
 func (s *Site) try(r *Request) {
 	switch ask := r.Ask.(type) {
 	case *wire.Call:
-		if ask.Upto > 0 && s.fed > ask.Upto {
+		if ask.Upto > 0 && s.before+s.fed > ask.Upto {
 			s.tooLate(r)
 			return
 		}
@@ -121,8 +129,12 @@ func (s *Site) try(r *Request) {
 			return
 		}
 		s.submit(r, text)
-	case wire.Rows, *wire.Scan:
+	case wire.Rows, *wire.Scan, wire.Dump:
 		s.rowsNext = append(s.rowsNext, r)
+	case wire.Settings:
+		s.tellSettings(r)
+	case *wire.Roll:
+		s.tryRoll(r, ask)
 	case wire.Hello:
 		s.hello(r)
 	}
@@ -171,19 +183,29 @@ func (s *Site) ran(r *Request, line []byte) error {
 	case wire.RunRepeat:
 		s.repeated(r, it.At, it.Value)
 	case wire.RunRefused:
-		s.tell(r, Answer{Kind: Refused, Text: string(it.Bytes)})
+		s.refusedRun(r, call, string(it.Bytes))
 	}
 	return nil
+}
+
+// sessionIsOver is the rule that a session can't call any more, or not with so low a number.
+const sessionIsOver = "P15"
+
+// refusedRun tells why a call isn't taken. Where its session isn't known here the call is asked again on fresh rows, since
+// the site may not have read the string that opened the session.
+func (s *Site) refusedRun(r *Request, call *wire.Call, rule string) {
+	switch {
+	case rule != sessionIsOver || r.fresh:
+		s.tell(r, Answer{Kind: Refused, Text: rule})
+	case s.ending == nil: // else the next order's site asks
+		s.askFresh(r, call)
+	}
 }
 
 // repeated answers a call whose pair was done before, by whether that was this very call. Before the order is position 0.
 func (s *Site) repeated(r *Request, position, reply uint64) {
 	call := r.call()
-	done := s.askedAt.at(position)
-	if position == 0 {
-		done = s.askedBefore[call.Session]
-	}
-	if done == askedBy(uint16(s.procedures[call.Name].number), call.Args) {
+	if s.asked.of(position, call.Session) == askedBy(uint16(s.procedures[call.Name].number), call.Args) {
 		s.tell(r, Answer{Kind: Committed, At: position, Value: reply})
 	} else {
 		s.tell(r, Answer{Kind: Other, At: position})
@@ -249,7 +271,7 @@ func (s *Site) isThere(r *Request) bool {
 	return true
 }
 
-// tell answers a request, once. While votes disagree nothing that rests on the rows is told.
+// tell answers a request, once, by positions of this order. While votes disagree nothing that rests on the rows is told.
 func (s *Site) tell(r *Request, answer Answer) {
 	if r.done.Load() {
 		return
@@ -264,7 +286,7 @@ func (s *Site) tell(r *Request, answer Answer) {
 	r.done.Store(true)
 	s.asking.remove(r)
 	s.stats.answered(answer.Kind, s.now.Sub(r.began), r.call() != nil)
-	r.Asker.Answer(r, answer)
+	r.Asker.Answer(r, answer.behind(s.before))
 	s.flushLater(r.Asker)
 	if call := r.call(); call != nil && call.Session != 0 {
 		if next := s.turns.end(call.Session, r); next != nil {

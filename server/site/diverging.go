@@ -31,7 +31,7 @@ func (s *Site) compare() {
 	before := s.isSilent()
 	found, is := s.votes.Divergence()
 	if is && (!s.isDiverged || found != s.diverged) {
-		s.warn("divergence from position %d on: of other servers' votes %d disagree and %d agree", found.Since, found.Disagree, found.Agree)
+		s.warn("divergence from position %d on: of other servers' votes %d disagree and %d agree", s.before+found.Since, found.Disagree, found.Agree)
 	}
 	s.diverged, s.isDiverged = found, is
 	switch now := s.isSilent(); {

@@ -12,6 +12,9 @@ import (
 // begin is told where the order ended at the start. An empty one gets its first string.
 func (s *Site) begin(position uint64) {
 	s.begun, s.beginning = true, position
+	if s.ending != nil {
+		s.beginning = s.end
+	}
 	if position == 0 {
 		s.beginning, s.wantsFirst = 1, true
 	}
@@ -26,21 +29,33 @@ func (s *Site) begin(position uint64) {
 // beginOrder puts the first string into an order that is empty.
 func (s *Site) beginOrder() {
 	if s.wantsFirst && s.end == 0 {
-		s.submitted = append(s.submitted, &order.String{Text: order.First(s.settings)})
+		s.submitted = append(s.submitted, &order.String{Text: s.firstString()})
 	}
 	s.wantsFirst = false
 }
 
+// firstString returns the string that the order begins with.
+func (s *Site) firstString() []byte { return order.First(s.settings, s.origin != nil) }
+
 // count takes in a batch of the order.
 func (s *Site) count(it *order.Counted) error {
+	if s.ending != nil { // it stands behind the end
+		return nil
+	}
 	if it.First != s.end+1 {
 		return fmt.Errorf("the order has a batch at position %d behind position %d", it.First, s.end)
 	}
 	s.unheard.push(unheard{s.end, it.Header, it.Made, !s.begun})
 	s.database = it.Header.Database
-	for _, text := range it.Strings {
-		if s.end == 0 && !bytes.Equal(text, order.First(s.settings)) {
-			return &Stopped{"the order was begun for other settings: one order has one settings file"}
+	for at, text := range it.Strings {
+		if s.end == 0 && !bytes.Equal(text, s.firstString()) {
+			if s.number == 1 {
+				return &Stopped{"the order was begun for other settings: one order has one settings file"}
+			}
+			s.warn("order %d was begun by a server that came to other settings: votes say whose are right", s.number)
+		}
+		if s.isEnd(it, at) {
+			break
 		}
 		s.end++
 		if s.begun && !bytes.Equal(text, order.Filling) {
@@ -103,30 +118,37 @@ func (s *Site) entered(line []byte) error {
 
 // noteAsked counts what became of a string, and keeps what a committed call asked.
 func (s *Site) noteAsked(it wire.Entry, text []byte) {
-	var found asked
+	s.asked.push(&it, text)
 	switch it.Kind {
 	case wire.EntryCommit:
 		s.counts.Committed++
-		if it.HasPair {
-			found = askedIn(text)
-		}
 	case wire.EntryAdded:
 		s.counts.Committed++
 		name, added := additionIn(text)
 		s.procedures[name] = added
+	case wire.EntrySession:
 	case wire.EntryNothing:
-		if !order.IsOfServers(text) {
-			s.counts.Nothing++
-		}
-		if string(it.Word) == "E5" {
-			s.counts.Untrue++
-			s.warn("position %d: nothing E5: its maker has other rows, or is no server of this database", it.Position)
-		}
+		s.noteNothing(it, text)
 	default:
 		s.counts.Refused++
 	}
-	s.askedAt.push(found)
 }
+
+func (s *Site) noteNothing(it wire.Entry, text []byte) {
+	switch {
+	case isOvertaken(it):
+		s.counts.Refused++
+	case !order.IsOfServers(text):
+		s.counts.Nothing++
+	}
+	if string(it.Word) == "E5" {
+		s.counts.Untrue++
+		s.warn("position %d: nothing E5: its maker has other rows, or is no server of this database", s.before+it.Position)
+	}
+}
+
+// isOvertaken returns whether a string is a call whose session has committed one of a greater number.
+func isOvertaken(it wire.Entry) bool { return it.Kind == wire.EntryNothing && string(it.Word) == "E6" }
 
 // becameOwn tells who handed a string what became of it.
 func (s *Site) becameOwn(it wire.Entry, line []byte) error {
@@ -145,13 +167,25 @@ func (s *Site) becameOwn(it wire.Entry, line []byte) error {
 	}
 	switch r.Ask.(type) {
 	case wire.NewSession:
-		s.tell(r, Answer{Kind: Session, At: it.Position})
+		s.becameSession(r, it)
 	case *wire.Add:
 		return s.becameAddition(r, it, line)
 	case *wire.Call:
 		return s.becameCall(r, it, line)
 	}
 	return nil
+}
+
+// becameSession tells a session's number: where the order opens no sessions it is the string's position.
+func (s *Site) becameSession(r *Request, it wire.Entry) {
+	switch {
+	case s.origin == nil:
+		s.tell(r, Answer{Kind: Session, At: it.Position})
+	case it.Kind == wire.EntrySession:
+		s.tell(r, Answer{Kind: Session, At: it.Value})
+	default: // there are as many as there can be
+		s.tell(r, Answer{Kind: Full})
+	}
 }
 
 func (s *Site) becameAddition(r *Request, it wire.Entry, line []byte) error {
@@ -179,7 +213,10 @@ func (s *Site) becameCall(r *Request, it wire.Entry, line []byte) error {
 	case wire.EntryStale:
 		s.again(r, Answer{Kind: Stale, At: it.Position})
 	default:
-		return s.ownNothing(line)
+		if !isOvertaken(it) {
+			return s.ownNothing(line)
+		}
+		s.tell(r, Answer{Kind: Refused, Text: sessionIsOver})
 	}
 	return nil
 }
@@ -224,7 +261,9 @@ func (s *Site) endsAt(it order.End) {
 		if it.Position > r.after {
 			r.after = it.Position
 		}
-		s.place(r)
+		if s.ending == nil || it.Position <= s.end {
+			s.place(r)
+		}
 	}
 }
 

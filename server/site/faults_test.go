@@ -157,11 +157,10 @@ func TestOverruled(t *testing.T) {
 }
 
 func TestAtItsEndAllAreAnswered(t *testing.T) {
-	of := newShared()
-	r := run(t, of, 1, nil)
+	r := serve(t, newOrders(), 1, nil)
 	r.session()
-	asked := r.asks("call add " + words_(5, 10) + " 2 1 after 1000000")
-	until(t, func() bool { found, _ := r.site.Snapshot(); return found.Waiting == 1 })
+	asked := r.asks("call add " + words_(5, 10) + " 1 1 after 1000000")
+	until(t, func() bool { found, _ := r.database.Snapshot(); return found.Waiting == 1 })
 	r.stop()
 	if found := r.answer(asked); found != "unknown stopping" {
 		t.Error(found)

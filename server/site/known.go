@@ -8,6 +8,7 @@ import (
 	"sort"
 	"strconv"
 
+	"dsmdb/server/ends"
 	"dsmdb/server/wire"
 )
 
@@ -27,16 +28,16 @@ type Procedure struct {
 // proceduresOf returns the procedures of settings that an engine has accepted, by their names.
 func proceduresOf(settings []byte) map[string]procedure {
 	found := map[string]procedure{}
-	for _, line := range bytes.Split(settings, []byte{'\n'}) {
+	ends.Lines(settings, "proc", func(line []byte) {
 		fields := bytes.Split(line, []byte{' '})
-		if string(fields[0]) != "proc" || len(fields) != 5 {
-			continue
+		if len(fields) != 5 {
+			return
 		}
 		number, _ := strconv.ParseUint(string(fields[2]), 10, 16)
 		length, _ := strconv.ParseUint(string(fields[3]), 10, 16)
 		program, _ := hex.DecodeString(string(bytes.TrimPrefix(fields[4], []byte{'-'})))
 		found[string(fields[1])] = procedure{uint32(number), uint32(length), sha256.Sum256(program)}
-	}
+	})
 	return found
 }
 
@@ -79,21 +80,62 @@ func askedBy(number uint16, args []byte) asked {
 	return it
 }
 
-// askedBefore returns what sessions asked last before the order, by session, of settings that an engine has accepted.
-func askedBefore(settings []byte) map[uint32]asked {
+// committed has what committed calls asked: what each session asked last, and, where the order opens no sessions, by
+// position what its call asked.
+type committed struct {
+	at   *askedAt         // nil where the order opens sessions, whose repeated calls are their last ones
+	last map[uint32]asked // by session; where there are positions, before the order alone
+}
+
+// committedBefore returns what sessions asked last before an order, of settings that an engine has accepted.
+func committedBefore(settings []byte, opensSessions bool) committed {
+	found := committed{last: lastAsked(settings)}
+	if !opensSessions {
+		found.at = &askedAt{}
+	}
+	return found
+}
+
+// push takes in what became of the next string.
+func (c *committed) push(it *wire.Entry, text []byte) {
+	var found asked
+	if it.Kind == wire.EntryCommit && it.HasPair {
+		found = askedIn(text)
+		if c.at == nil {
+			c.last[sessionIn(text)] = found
+		}
+	}
+	if c.at != nil {
+		c.at.push(found)
+	}
+}
+
+// of returns what the call asked that a session's call repeats, at a position, or before the order at 0.
+func (c *committed) of(position uint64, session uint32) asked {
+	if c.at == nil || position == 0 {
+		return c.last[session]
+	}
+	return c.at.at(position)
+}
+
+// lastAsked returns what sessions asked last before the order, by session.
+func lastAsked(settings []byte) map[uint32]asked {
 	found := map[uint32]asked{}
-	for _, line := range bytes.Split(settings, []byte{'\n'}) {
+	ends.Lines(settings, "request", func(line []byte) {
 		fields := bytes.Split(line, []byte{' '})
-		if string(fields[0]) != "request" || len(fields) != 6 {
-			continue
+		if len(fields) != 6 {
+			return
 		}
 		session, _ := strconv.ParseUint(string(fields[1]), 10, 32)
 		number, _ := strconv.ParseUint(string(fields[4]), 10, 16)
 		args, _ := hex.DecodeString(string(bytes.TrimPrefix(fields[5], []byte{'-'})))
 		found[uint32(session)] = askedBy(uint16(number), args)
-	}
+	})
 	return found
 }
+
+// sessionIn returns the session of a call that stands in the order.
+func sessionIn(call []byte) uint32 { return binary.LittleEndian.Uint32(call[1:]) }
 
 // askedIn returns what a call that stands in the order asked.
 func askedIn(call []byte) asked {

@@ -28,6 +28,7 @@ type Request struct {
 	deadline time.Time
 	done     atomic.Bool
 	after    uint64 // the call begins where the engine has this many strings
+	fresh    bool   // whether the call's answer is of rows of the order's end
 	question uint64 // of the order's end, which is waited for; 0 for none
 	tries    int
 	last     Answer       // of a try after which the call is tried again

@@ -77,10 +77,14 @@ func (s *Site) restart(why error) error {
 // takeBack takes what the engine was asked back into what it is to be asked.
 func (s *Site) takeBack() {
 	for _, it := range s.pending.all() {
+		if it.kind == forNext {
+			s.spool.Close()
+			s.ending.dumping = false
+		}
 		if it.of == nil || it.of.done.Load() {
 			continue
 		}
-		if it.kind == forRows {
+		if it.kind.hasLines() {
 			s.spool.Close()
 			s.spooling, s.spool = nil, nil
 			s.rowsNext = append(s.rowsNext, it.of)
@@ -178,7 +182,7 @@ func (s *Site) enteredAgain(line []byte) error {
 	r.digest = r.digest.WithAnswer(line)
 	s.refed()
 	if r.from == r.upto && r.digest != s.votes.Own().Answers {
-		return &Stopped{fmt.Sprintf("the engine was started again, and answers otherwise than before up to position %d", r.upto)}
+		return &Stopped{fmt.Sprintf("the engine was started again, and answers otherwise than before up to position %d", s.before+r.upto)}
 	}
 	return nil
 }
@@ -188,7 +192,7 @@ func (s *Site) refed() {
 	if r := s.restarting; r.ready && r.from == r.upto {
 		r.cancel()
 		s.restarting = nil
-		s.say("the engine is back at position %d", s.position)
+		s.say("the engine is back at position %d", s.before+s.position)
 	}
 }
 

@@ -11,6 +11,7 @@ import (
 	"time"
 
 	"dsmdb/server/batch"
+	"dsmdb/server/ends"
 	"dsmdb/server/engine"
 	"dsmdb/server/order"
 	"dsmdb/server/votes"
@@ -23,6 +24,7 @@ const (
 	silentFor   = 60 * time.Second // of a server that others disagree with, before it ends
 	awayFor     = 2 * time.Second  // of an order that can't be reached, before the log tells of it
 	voteWithin  = 50 * time.Second // of strings that were counted since the last vote
+	endAgain    = 10 * time.Second // before an order that hasn't ended is ended once more
 )
 
 // Stopped says why a site can't go on.
@@ -47,6 +49,7 @@ var _ Engine = (*engine.Engine)(nil)
 // Options are what a site is made of.
 type Options struct {
 	Settings []byte
+	Number   uint64 // of the order among those of its database, from 1 on
 	Order    order.Order
 	Maker    batch.ID
 	// Start starts an engine over the settings, which has no string yet.
@@ -55,6 +58,10 @@ type Options struct {
 	Patience time.Duration
 	// Overrule has the site go on whatever other servers voted before its start.
 	Overrule bool
+	// Rolls says how the order ends, and what is kept then.
+	Rolls Rolls
+	// Past is what the site of the order before has counted; nil for the first one since the start.
+	Past *Past
 	// Say is told of what happens, a line an event, and Warn of what an operator should look at. They never wait.
 	Say, Warn func(format string, values ...any)
 }
@@ -62,10 +69,15 @@ type Options struct {
 // Site is one site, from its start to its end.
 type Site struct {
 	settings []byte
+	number   uint64
+	origin   *ends.Origin // nil where the order opens no sessions
+	tables   []ends.Table
+	before   uint64 // strings that came before this order
 	order    order.Order
 	start    func(ctx context.Context) (Engine, error)
 	patience time.Duration
 	overrule bool
+	rolls    Rolls
 	say      func(format string, values ...any)
 	warn     func(format string, values ...any)
 	maker    batch.ID
@@ -110,27 +122,30 @@ type Site struct {
 	awaySince   time.Time // when it was told that the order can't be reached; zero where it can
 
 	procedures map[string]procedure
+	asked      committed
+	ending     *ending    // nil where no end was read
+	endedAt    time.Time  // when this server last handed the order an end by itself
+	next       []byte     // the settings of the next order; nil before they are kept
+	handedOver []*Request // to the next order's site
 
-	askedBefore map[uint32]asked // by session
-	askedAt     askedAt
-	asking      outstanding
-	early       []*Request // that came before the site had caught up
-	turns       turns
-	ready       queue[*Request] // calls that may begin
-	behind      waiting         // calls that wait for a position
-	fresh       queue[*Request]
-	retries     waiting // calls that wait for a time, in nanoseconds
-	submitted   []*order.String
-	filledTo    uint64   // the position up to which the order was filled up
-	spooling    *Request // whose rows the engine prints, into spool
-	spool       *Spool
-	rowsNext    []*Request   // who wait for their rows
-	flushes     []Asker      // who were answered in this turn
-	flusher     chan []Asker // to the goroutine that flushes where many are
-	counts      Counts
-	growth      growth
-	stats       stats
-	now         time.Time
+	asking    outstanding
+	early     []*Request // that came before the site had caught up
+	turns     turns
+	ready     queue[*Request] // calls that may begin
+	behind    waiting         // calls that wait for a position
+	fresh     queue[*Request]
+	retries   waiting // calls that wait for a time, in nanoseconds
+	submitted []*order.String
+	filledTo  uint64   // the position up to which the order was filled up
+	spooling  *Request // whose rows the engine prints, into spool
+	spool     *Spool
+	rowsNext  []*Request   // who wait for their rows
+	flushes   []Asker      // who were answered in this turn
+	flusher   chan []Asker // to the goroutine that flushes where many are
+	counts    Counts
+	growth    growth
+	stats     stats
+	now       time.Time
 }
 
 // pending is what the engine was asked for.
@@ -147,6 +162,8 @@ const (
 	forCall                        // a call's run
 	forAddition                    // what an addition would append
 	forRows                        // rows, up to the line of their position
+	forDump                        // the settings of a database that goes on, up to the line of their position
+	forNext                        // the same, for the next order
 )
 
 // own is a batch of this server's strings.
@@ -168,13 +185,22 @@ type Counts struct{ Committed, Refused, Nothing, Untrue uint64 }
 
 // New makes a site, which Run runs.
 func New(o Options) *Site {
-	return &Site{
-		settings: o.Settings, order: o.Order, start: o.Start, patience: o.Patience, overrule: o.Overrule, say: o.Say, warn: o.Warn, maker: o.Maker,
+	found := ends.Read(o.Settings)
+	s := &Site{
+		settings: o.Settings, number: o.Number, origin: found.Origin, tables: found.Tables, database: found.Of,
+		order: o.Order, start: o.Start, patience: o.Patience, overrule: o.Overrule, rolls: o.Rolls, say: o.Say, warn: o.Warn, maker: o.Maker,
 		wake: make(chan struct{}, 1), closed: make(chan struct{}), flusher: make(chan []Asker, flushersWait),
-		votes: votes.New(o.Maker, o.Settings), procedures: proceduresOf(o.Settings), askedBefore: askedBefore(o.Settings),
+		votes: votes.New(o.Maker, o.Settings), procedures: proceduresOf(o.Settings), asked: committedBefore(o.Settings, found.Origin != nil),
 		turns: turns{},
 		vote:  batch.Vote{Answers: batch.OfSettings(o.Settings)},
 	}
+	if found.Origin != nil {
+		s.before = found.Origin.Strings
+	}
+	if o.Past != nil {
+		s.stats, s.growth = o.Past.stats, o.Past.growth
+	}
+	return s
 }
 
 // Vote returns what the engine has come to. It may be called from any goroutine.
@@ -184,8 +210,9 @@ func (s *Site) Vote() batch.Vote {
 	return s.vote
 }
 
-// Ask hands over requests, each of which is answered once. It never waits, and may be called from any goroutine.
-func (s *Site) Ask(requests ...*Request) {
+// Ask hands over requests, each of which is answered once, by this site or by that of a later order; false where the site
+// has ended. It never waits, and may be called from any goroutine.
+func (s *Site) Ask(requests ...*Request) bool {
 	s.mutex.Lock()
 	ended := s.ended
 	if !ended {
@@ -194,12 +221,8 @@ func (s *Site) Ask(requests ...*Request) {
 	s.mutex.Unlock()
 	if !ended {
 		s.ring()
-		return
 	}
-	for _, r := range requests {
-		r.Asker.Answer(r, Answer{Kind: Unknown, Text: IsStopping})
-		r.Asker.Flush()
-	}
+	return !ended
 }
 
 // do has the site's goroutine do something; false where the site has ended.
@@ -221,7 +244,8 @@ func (s *Site) ring() {
 	}
 }
 
-// Run goes on until the context ends, where it returns nil, or an error says why it can't. All requests are answered.
+// Run goes on until the order or the context ends, where it returns nil, or an error says why it can't. Where the order
+// has ended Next has what the next one begins with; else all requests are answered.
 func (s *Site) Run(ctx context.Context) error {
 	go flushAll(s.flusher)
 	err := s.run(ctx)
@@ -230,11 +254,10 @@ func (s *Site) Run(ctx context.Context) error {
 	left, tasks := s.inbox, s.tasks
 	s.inbox, s.tasks = nil, nil
 	s.mutex.Unlock()
-	for _, r := range left {
-		s.arrive(r)
-	}
-	for s.asking.first != nil {
-		s.tell(s.asking.first, Answer{Kind: Unknown, Text: IsStopping})
+	if s.next != nil {
+		s.handOver(left)
+	} else {
+		s.answerAll(left)
 	}
 	s.flush()
 	for _, task := range tasks {
@@ -260,17 +283,27 @@ func (s *Site) run(ctx context.Context) error {
 	defer timer.Stop()
 	for {
 		s.setTimer(timer)
-		if stop, err := s.turn(ctx, ticks.C, timer.C); stop || err != nil {
+		if stop, err := s.turn(ctx, ticks.C, timer.C); stop || err != nil || s.next != nil {
 			return err
 		}
 		s.goOn()
 	}
 }
 
+// answerAll answers all requests, at the site's end.
+func (s *Site) answerAll(left []*Request) {
+	for _, r := range left {
+		s.arrive(r)
+	}
+	for s.asking.first != nil {
+		s.tell(s.asking.first, Answer{Kind: Unknown, Text: IsStopping})
+	}
+}
+
 // turn waits for something to happen, and takes it in.
 func (s *Site) turn(ctx context.Context, ticks, timer <-chan time.Time) (stop bool, err error) {
 	events := s.order.Events()
-	if s.backlog > backlogMost {
+	if s.backlog > backlogMost || s.ending != nil { // nothing behind an end is of the order
 		events = nil
 	}
 	answers := s.engine.Answers()
@@ -307,12 +340,15 @@ func (s *Site) goOn() {
 	s.feed()
 	s.retryDue()
 	s.askReady()
+	s.finish()
 	if len(s.out) > 0 {
 		s.engine.Ask(s.out)
 		s.out = s.out[:0]
 	}
 	if len(s.submitted) > 0 {
-		s.order.Append(s.submitted)
+		if s.ending == nil {
+			s.order.Append(s.submitted)
+		}
 		s.submitted = nil
 	}
 	s.flush()
@@ -365,10 +401,11 @@ func (s *Site) takeTick() error {
 	s.fillUp()
 	s.expire()
 	s.tellReach()
+	s.endOrder()
 	s.watchEngine()
 	if s.isDiverged && s.diverged.Silences() && s.now.Sub(s.silentSince) > silentFor {
 		return &Stopped{fmt.Sprintf("other servers came to other answers than this one from position %d on: %d disagree, %d agree",
-			s.diverged.Since, s.diverged.Disagree, s.diverged.Agree)}
+			s.before+s.diverged.Since, s.diverged.Disagree, s.diverged.Agree)}
 	}
 	if s.caughtUp() && s.newStrings && s.now.Sub(s.votedAt) > voteWithin {
 		s.giveVote()

@@ -61,6 +61,7 @@ type rig struct {
 	t     *testing.T
 	seat  *seat
 	site  *Site
+	asked interface{ Ask(...*Request) }
 	stop  context.CancelFunc
 	ended chan error
 	pid   atomic.Value // of the engine: func()
@@ -81,7 +82,7 @@ func run(t *testing.T, of *shared, name byte, change func(*Options)) *rig {
 	path := program(t)
 	r := &rig{t: t, seat: of.sit(batch.ID{name}), ended: make(chan error, 1)}
 	options := Options{
-		Settings: []byte(settings), Order: r.seat, Maker: batch.ID{name}, Patience: limit,
+		Settings: []byte(settings), Number: 1, Order: r.seat, Maker: batch.ID{name}, Patience: limit,
 		Say: t.Logf, Warn: t.Logf,
 	}
 	options.Start = func(ctx context.Context) (Engine, error) {
@@ -125,7 +126,11 @@ func (r *rig) asks(line string) *asker {
 		r.t.Fatalf("%s: %v", line, err)
 	}
 	a := &asker{found: make(chan Answer, 1)}
-	r.site.Ask(&Request{Ask: read.Ask, Asker: a})
+	if request := (&Request{Ask: read.Ask, Asker: a}); r.asked != nil {
+		r.asked.Ask(request)
+	} else if !r.site.Ask(request) {
+		r.t.Fatal("the site has ended")
+	}
 	return a
 }
 
@@ -326,7 +331,7 @@ func TestAfterFreshAndPatience(t *testing.T) {
 
 func TestWhatStoodInTheOrderAtTheStartIsNoGrowth(t *testing.T) {
 	of := newShared()
-	texts := [][]byte{order.First([]byte(settings))}
+	texts := [][]byte{order.First([]byte(settings), false)}
 	for len(texts) < 1000 {
 		texts = append(texts, []byte{7})
 	}
@@ -404,7 +409,7 @@ func TestAFullOrder(t *testing.T) {
 
 func TestAnOrderOfOtherSettings(t *testing.T) {
 	of := newShared()
-	of.insert(batch.ID{9}, atStart, order.First([]byte("window 5\n")))
+	of.insert(batch.ID{9}, atStart, order.First([]byte("window 5\n"), false))
 	run(t, of, 1, nil).ends("other settings")
 }
 

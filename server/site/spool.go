@@ -16,7 +16,7 @@ type Spool struct {
 	file   *os.File
 	size   int64
 	failed error
-	// Position is the one after which the rows are, and Count how many there are.
+	// Position is the one after which the rows are, and Count how many lines there are before that of the position.
 	Position, Count uint64
 }
 
@@ -49,6 +49,12 @@ func (s *Spool) spill() error {
 		return fmt.Errorf("keeping rows: %w", err)
 	}
 	return nil
+}
+
+// readLast reads the line of the position that ends the lines, and returns what they are called there.
+func (s *Spool) readLast(line []byte) (what string, err error) {
+	_, err = fmt.Sscanf(string(line), "position %d %s %d", &s.Position, &what, &s.Count)
+	return what, err
 }
 
 // Size returns how many bytes the lines have.

@@ -31,7 +31,9 @@ func (c *stats) answered(kind Kind, took time.Duration, isCall bool) {
 // Snapshot is what is known of a site at a time.
 type Snapshot struct {
 	Database       batch.ID
-	Position, End  uint64
+	Order          uint64       // number of the order
+	Before         uint64       // strings that came before this order
+	Position, End  uint64       // of the database: Before and those of this order
 	Digest         batch.Digest // of the strings up to Position
 	Counts         Counts
 	CaughtUp       bool
@@ -79,9 +81,10 @@ func (s *Site) Snapshot() (Snapshot, bool) {
 
 func (s *Site) snapshot() Snapshot {
 	it := Snapshot{
-		Database: s.database, Position: s.position, End: s.end, Digest: s.votes.Own().Strings, Counts: s.counts,
-		CaughtUp: s.caughtUp(), Beginning: s.beginning, Diverged: s.isDiverged, Silent: s.isSilent(), DivergedSince: s.diverged.Since,
-		Waiting: s.asking.count, Backlog: s.backlog, EngineLines: s.pending.len(), EngineRestarts: s.stats.restarts,
+		Database: s.database, Order: s.number, Before: s.before, Position: s.before + s.position, End: s.before + s.end, Digest: s.votes.Own().Strings, Counts: s.counts,
+		CaughtUp: s.caughtUp(), Beginning: s.before + s.beginning, Diverged: s.isDiverged, Silent: s.isSilent(),
+		DivergedSince: s.before + s.diverged.Since,
+		Waiting:       s.asking.count, Backlog: s.backlog, EngineLines: s.pending.len(), EngineRestarts: s.stats.restarts,
 		Restarting: s.restarting != nil, Ahead: s.growth.ahead(), Dropped: s.stats.dropped, Retried: s.stats.retried,
 		Answers: map[string]uint64{}, Calls: s.stats.calls, Appends: s.stats.appends,
 		Batches: s.stats.batches,
@@ -105,7 +108,7 @@ func (s *Site) snapshot() Snapshot {
 	return it
 }
 
-func (s *Site) positionLine() string { return fmt.Sprintf("position %d", s.position) }
+func (s *Site) positionLine() string { return fmt.Sprintf("position %d", s.before+s.position) }
 
 func (s *Site) statusLine() string {
 	it := s.snapshot()
@@ -122,9 +125,9 @@ func (s *Site) statusLine() string {
 	case it.Restarting:
 		state = "restarting"
 	}
-	return fmt.Sprintf("status database=%s order=1 position=%d end=%d digest=%s committed=%d refused=%d nothing=%d untrue=%d "+
+	return fmt.Sprintf("status database=%s order=%d before=%d position=%d end=%d digest=%s committed=%d refused=%d nothing=%d untrue=%d "+
 		"state=%s waiting=%d procedures=%d access=%s",
-		hex.EncodeToString(it.Database[:]), it.Position, it.End, hex.EncodeToString(it.Digest[:]), it.Counts.Committed,
+		hex.EncodeToString(it.Database[:]), it.Order, it.Before, it.Position, it.End, hex.EncodeToString(it.Digest[:]), it.Counts.Committed,
 		it.Counts.Refused, it.Counts.Nothing, it.Counts.Untrue, state, it.Waiting, len(it.Procedures), order)
 }
 
@@ -135,5 +138,6 @@ func (s *Site) hello(r *Request) {
 		s.place(r)
 		return
 	}
-	s.tell(r, Answer{Kind: Text, Text: fmt.Sprintf("hello %s 1 %d %d", hex.EncodeToString(s.database[:]), s.position, s.growth.ahead())})
+	s.tell(r, Answer{Kind: Text, Text: fmt.Sprintf("hello %s %d %d %d", hex.EncodeToString(s.database[:]), s.number,
+		s.before+s.position, s.growth.ahead())})
 }

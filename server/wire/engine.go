@@ -16,6 +16,7 @@ const (
 	EntryRepeat
 	EntryAdded
 	EntryTaken
+	EntrySession
 	EntryNothing
 )
 
@@ -23,7 +24,7 @@ const (
 type Entry struct {
 	Position uint64
 	Kind     EntryKind
-	Value    uint64 // the reply of a commit or a repeat, the number of an added procedure
+	Value    uint64 // the reply of a commit or a repeat, the number of an added procedure, the session that is opened
 	Other    uint64 // the position of what is repeated, or met in conflict
 	Word     []byte // the rule that an addition breaks, or by which a string is nothing
 	HasPair  bool   // whether a session and a sequence number follow
@@ -36,7 +37,7 @@ var entryForms = []struct {
 	fields int
 }{
 	{"commit", EntryCommit, 2}, {"conflict", EntryConflict, 1}, {"stale", EntryStale, 0}, {"repeat", EntryRepeat, 3},
-	{"added", EntryAdded, 1}, {"taken", EntryTaken, 1}, {"nothing", EntryNothing, 1},
+	{"added", EntryAdded, 1}, {"taken", EntryTaken, 1}, {"session", EntrySession, 1}, {"nothing", EntryNothing, 1},
 }
 
 // ReadEntry reads an engine's answer to an `entry` line; false where it is none.
@@ -73,7 +74,7 @@ func (e *Entry) take(fields [][]byte, ok *bool) {
 		e.Other = number(fields[0], ok)
 	case EntryRepeat: // E reply V
 		e.Other, e.Value = number(fields[0], ok), number(fields[2], ok)
-	case EntryAdded:
+	case EntryAdded, EntrySession:
 		e.Value = number(fields[0], ok)
 	case EntryTaken, EntryNothing:
 		e.Word = fields[0]

@@ -15,6 +15,7 @@ func TestAnswersOfAnEngine(t *testing.T) {
 		"entry 4 repeat 1 reply 10 session 7 seq 1": {Position: 4, Kind: EntryRepeat, Other: 1, Value: 10, HasPair: true},
 		"entry 5 added 9":                           {Position: 5, Kind: EntryAdded, Value: 9},
 		"entry 5 taken C1":                          {Position: 5, Kind: EntryTaken, Word: []byte("C1")},
+		"entry 6 session 4294967295":                {Position: 6, Kind: EntrySession, Value: 1<<32 - 1},
 		"entry 6 nothing E5 session 7 seq 1":        {Position: 6, Kind: EntryNothing, Word: []byte("E5"), HasPair: true},
 	} {
 		if found, ok := ReadEntry([]byte(line)); !ok || !reflect.DeepEqual(found, want) {

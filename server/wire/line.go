@@ -7,6 +7,8 @@ import (
 	"strconv"
 	"strings"
 	"time"
+
+	"dsmdb/server/ends"
 )
 
 const (
@@ -34,8 +36,8 @@ type Line struct {
 	Ask Ask
 }
 
-// Ask is one of Call, Add, NewSession, Rows, Scan, Position, Status, Hello, Layout,
-// Join, Token; nil for an empty line or a comment.
+// Ask is one of Call, Add, NewSession, Rows, Scan, Dump, Settings, Roll, Forget, Position, Status, Hello, Layout, Join,
+// Token; nil for an empty line or a comment.
 type Ask interface{ isAsk() }
 
 type (
@@ -65,6 +67,17 @@ type (
 		First, Last uint64
 		Most        uint32
 	}
+	// Dump asks for the settings of a database that goes on from where the server is.
+	Dump struct{}
+	// Settings asks for the settings of the server's order.
+	Settings struct{}
+	// Roll asks that the order of a number is ended, and another one begun.
+	Roll struct {
+		Order uint64
+		End   ends.End
+	}
+	// Forget asks that all orders below a number are deleted.
+	Forget struct{ Below uint64 }
 	// Position asks how far the server has come.
 	Position struct{}
 	// Status asks that and more.
@@ -84,6 +97,10 @@ func (*Add) isAsk()       {}
 func (NewSession) isAsk() {}
 func (Rows) isAsk()       {}
 func (*Scan) isAsk()      {}
+func (Dump) isAsk()       {}
+func (Settings) isAsk()   {}
+func (*Roll) isAsk()      {}
+func (*Forget) isAsk()    {}
 func (Position) isAsk()   {}
 func (Status) isAsk()     {}
 func (Hello) isAsk()      {}
@@ -163,6 +180,10 @@ var readers = map[string]func(fields []string) (Ask, error){
 	"session":  alone(NewSession{}),
 	"rows":     alone(Rows{}),
 	"scan":     readScan,
+	"dump":     alone(Dump{}),
+	"settings": alone(Settings{}),
+	"roll":     readRoll,
+	"forget":   readForget,
 	"position": alone(Position{}),
 	"status":   alone(Status{}),
 	"hello":    alone(Hello{}),

@@ -33,7 +33,10 @@ type clientOptions struct {
 }
 
 func (o *clientOptions) commands() []*cobra.Command {
-	all := []*cobra.Command{o.callCommand(), o.addCommand(), o.rowsCommand(), o.sessionCommand(), o.statusCommand()}
+	all := []*cobra.Command{
+		o.callCommand(), o.addCommand(), o.rowsCommand(), o.sessionCommand(), o.statusCommand(), o.dumpCommand(), o.rollCommand(),
+		o.fetchCommand(), o.forgetCommand(),
+	}
 	for _, command := range all {
 		flags := command.Flags()
 		flags.StringArrayVar(&o.at, "at", nil, "a server: its data folder, a Unix socket's path, tcp://HOST:PORT or tls://HOST:PORT; may be given again")
@@ -52,7 +55,8 @@ func (o *clientOptions) callCommand() *cobra.Command {
 		Long: `Calls a procedure. Its arguments are given by name where the server has a layout, else as hex digits, - for none.
 
 Exit status: 0 committed or read; 1 cancelled; 2 words or arguments at fault; 3 no server was asked; 4 settled, and not
-done; 5 it may have been done, or may still be: the same command with the same --file asks on.`,
+done, or the session was lost, which is said: then it may have been done before; 5 it may have been done, or may still be:
+the same command with the same --file asks on.`,
 		Example: "  dsmdb call --at db --file me pay account=7 amount=100",
 		Args: func(_ *cobra.Command, given []string) error {
 			if len(given) == 0 {
@@ -218,11 +222,15 @@ func (o *clientOptions) call(name string, given []string) error {
 			return unsaid(c, fault)
 		}
 	}
-	if err != nil {
+	isLost := errors.Is(err, client.ErrSessionLost)
+	if err != nil && !isLost {
 		return failed(err)
 	}
 	if err := c.Close(); err != nil {
 		return &status{statusAskAgain, err}
+	}
+	if isLost {
+		return &status{statusNotDone, err}
 	}
 	return ended(answer)
 }
@@ -230,11 +238,15 @@ func (o *clientOptions) call(name string, given []string) error {
 // settleEarlier settles a call that the client's file has, and says what became of it.
 func settleEarlier(ctx context.Context, c *client.Client, line string, known *lateLayout) error {
 	answer, err := c.Settle(ctx)
-	if err != nil {
+	isLost := errors.Is(err, client.ErrSessionLost)
+	if err != nil && !isLost {
 		return failed(fmt.Errorf("earlier %s: %w", line, err))
 	}
 	if _, err := fmt.Printf("earlier %s: %s\n", line, known.said(answer)); err != nil {
 		return unsaid(c, err)
+	}
+	if isLost {
+		fmt.Fprintln(os.Stderr, "dsmdb: earlier call:", err)
 	}
 	return nil
 }

@@ -58,11 +58,9 @@ func (o *etcdOptions) check() error {
 	return nil
 }
 
-// options returns what an order in etcd is opened with.
-func (o *etcdOptions) options(folder string, maker order.Maker, journal string, say func(string, ...any)) (order.EtcdOptions, error) {
-	options := order.EtcdOptions{
-		Prefix: "dsmdb", Number: 1, CA: o.ca, Cert: o.cert, Key: o.key, Login: o.login, Maker: maker, Journal: journal, Log: say,
-	}
+// options returns what orders in etcd are opened with.
+func (o *etcdOptions) options(folder string, say func(string, ...any)) (order.EtcdOptions, error) {
+	options := order.EtcdOptions{Prefix: "dsmdb", CA: o.ca, Cert: o.cert, Key: o.key, Login: o.login, Log: say}
 	if o.place != "" {
 		found := etcdPlace.FindStringSubmatch(o.place)
 		options.Endpoints, options.Prefix = strings.Split(found[1], ","), found[2]
@@ -79,29 +77,25 @@ func (o *etcdOptions) options(folder string, maker order.Maker, journal string, 
 	return options, err
 }
 
-// openEtcd opens an order in etcd: outside, or at the member that runs in this server.
-func (s *server) openEtcd(name string, maker order.Maker, journal string) error {
-	options, err := s.etcd.options(s.data, maker, journal, s.log.warn)
+// openEtcd opens where orders lie in etcd: outside, or at the member that runs in this server.
+func (s *server) openEtcd(name string) (order.Place, error) {
+	options, err := s.etcd.options(s.data, s.log.warn)
 	if err != nil {
-		return err
+		return nil, err
 	}
 	if name == "" {
-		opened, err := order.OpenEtcd(options)
-		s.order = opened
-		return err
+		return order.InEtcd(options, s.folder)
 	}
 	if s.member, err = cluster.Start(cluster.Options{
 		Folder: s.data, Name: name, Cert: s.etcd.peers.cert, Key: s.etcd.peers.key, CA: s.etcd.peers.ca, Insecure: s.insecure, Log: s.log,
 	}); err != nil {
-		return err
+		return nil, err
 	}
 	go func() {
 		<-s.member.Ended()
 		s.failures <- errors.New("the cluster's member has stopped: another one took its place, or its disk failed")
 	}()
-	opened, err := order.OpenEmbedded(options, s.member.Embedded())
-	s.order = opened
-	return err
+	return order.InCluster(options, s.folder, s.member.Embedded())
 }
 
 // memberName returns the name of the member that this server runs; empty where it runs none.

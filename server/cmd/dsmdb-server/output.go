@@ -2,13 +2,17 @@ package main
 
 import (
 	"bufio"
+	"io"
 	"os"
 )
 
-// output is standard output, written a block at a time.
+// output is written a block at a time.
 type output struct{ to *bufio.Writer }
 
-func newOutput() *output { return &output{bufio.NewWriterSize(os.Stdout, 1<<16)} }
+// newOutput returns standard output.
+func newOutput() *output { return outputTo(os.Stdout) }
+
+func outputTo(to io.Writer) *output { return &output{bufio.NewWriterSize(to, 1<<16)} }
 
 func (o *output) line(text string) error {
 	o.to.WriteString(text)

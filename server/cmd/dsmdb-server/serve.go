@@ -3,7 +3,6 @@ package main
 import (
 	"context"
 	"crypto/tls"
-	"errors"
 	"fmt"
 	"net"
 	"net/http"
@@ -20,7 +19,6 @@ import (
 	"dsmdb/server/api"
 	"dsmdb/server/cluster"
 	"dsmdb/server/data"
-	"dsmdb/server/engine"
 	"dsmdb/server/layout"
 	"dsmdb/server/lineserver"
 	"dsmdb/server/order"
@@ -42,6 +40,9 @@ type serveOptions struct {
 	open, insecure     bool
 	overrule           bool
 	patience           time.Duration
+	rollAt             uint64
+	keep               time.Duration
+	dieAt              string
 	connections        int
 	served             []string // names of HTTP's hosts
 	pprof              string
@@ -82,6 +83,10 @@ func serveCommand() *cobra.Command {
 	flags.BoolVar(&o.insecure, "insecure", false, "take TCP without TLS on addresses that aren't loopback")
 	flags.BoolVar(&o.overrule, "overrule", false, "go on whatever other servers voted before this start")
 	flags.DurationVar(&o.patience, "patience", 30*time.Second, "for how long a call is tried that doesn't say for how long")
+	flags.Uint64Var(&o.rollAt, "roll-at", 0, "end the order where it has this many strings, and go on in another one; 0 for never")
+	flags.DurationVar(&o.keep, "keep", 24*time.Hour, "how old an order is before its end may close the sessions that did nothing in it")
+	flags.StringVar(&o.dieAt, "die-at", "", "for tests: end without further ado at a step of a roll")
+	flags.MarkHidden("die-at")
 	flags.IntVar(&o.connections, "connections", lineserver.DefaultLimits.Connections, "clients at once")
 	flags.StringArrayVar(&o.served, "served", nil, "a name under which HTTP is reached, besides loopback; may be given again")
 	flags.StringVar(&o.engine, "engine", os.Getenv("DSMDB"), "the program dsmdb")
@@ -117,6 +122,10 @@ func (o *serveOptions) check() error {
 		return words("--patience is from 1s to 24h")
 	case o.connections < 1:
 		return words("--connections is at least 1")
+	case o.rollAt == 1:
+		return words("--roll-at is 0, or from 2 on: the first string of an order ends none")
+	case o.keep < 0:
+		return words("--keep is 0s or more")
 	}
 	if err := o.etcd.check(); err != nil {
 		return err
@@ -166,8 +175,8 @@ type server struct {
 	*serveOptions
 	log      *logger
 	folder   *data.Folder
-	order    order.Order
-	site     *site.Site
+	place    order.Place
+	database *site.Database
 	policy   *access.Policy
 	layout   *layout.Layout
 	lines    *lineserver.Server
@@ -193,8 +202,8 @@ func (o *serveOptions) run() error {
 	defer s.folder.Close()
 	ctx, stop := signal.NotifyContext(context.Background(), syscall.SIGTERM, syscall.SIGINT)
 	defer stop()
-	err = s.openOrder(settings)
-	defer s.closeOrder()
+	err = s.openDatabase(settings)
+	defer s.stopMember()
 	if err != nil {
 		return err
 	}
@@ -206,7 +215,7 @@ func (s *server) answer(ctx context.Context) error {
 	running, end := context.WithCancel(context.Background())
 	defer end()
 	ended := make(chan error, 1)
-	go func() { ended <- s.site.Run(running) }()
+	go func() { ended <- s.database.Run(running) }()
 	listening, stopListening := context.WithCancel(running)
 	defer stopListening()
 	if err := s.listenAll(listening); err != nil {
@@ -249,61 +258,16 @@ func (s *server) prepare() ([]byte, error) {
 		if s.layout, err = layout.Load(s.serveOptions.layout); err != nil {
 			return nil, err
 		}
-		if err := s.layout.Check(settings); err != nil {
-			return nil, fmt.Errorf("%s: %w", s.serveOptions.layout, err)
-		}
 	}
 	s.folder, err = data.Open(s.data)
 	return settings, err
-}
-
-// openOrder opens the order, and makes the site over it.
-func (s *server) openOrder(settings []byte) error {
-	path, err := s.folder.Order(1)
-	if err != nil {
-		return fmt.Errorf("the order's folder: %w", err)
-	}
-	vote := &lateVote{}
-	maker := order.Maker{ID: s.folder.Maker(), Version: version, Vote: vote.Vote}
-	name, err := s.memberName()
-	if err != nil {
-		return err
-	}
-	if name != "" || s.etcd.place != "" {
-		if err := s.openEtcd(name, maker, path); err != nil {
-			return fmt.Errorf("the order in etcd: %w", err)
-		}
-	} else {
-		s.order = order.OpenLocal(path, maker)
-	}
-	s.site = site.New(site.Options{
-		Settings: settings, Order: s.order, Maker: s.folder.Maker(), Patience: s.patience, Overrule: s.overrule, Say: s.log.say, Warn: s.log.warn,
-		Start: func(ctx context.Context) (site.Engine, error) {
-			started, err := engine.Start(ctx, s.engine, settings)
-			var fault *engine.SettingsFault
-			if errors.As(err, &fault) {
-				return nil, fmt.Errorf("%s: %s: `dsmdb explain %s` says what is wrong", s.settings, fault.Text, lastWord(fault.Text))
-			}
-			if err != nil {
-				return nil, err
-			}
-			return started, nil
-		},
-	})
-	vote.set(s.site)
-	return nil
-}
-
-func lastWord(text string) string {
-	fields := strings.Fields(text)
-	return fields[len(fields)-1]
 }
 
 // listenAll opens all doors.
 func (s *server) listenAll(ctx context.Context) error {
 	limits := lineserver.DefaultLimits
 	limits.Connections = s.connections
-	s.lines = &lineserver.Server{Site: s.site, Policy: s.policy, Layout: s.layout, Limits: limits, Warn: s.log.warn}
+	s.lines = &lineserver.Server{Site: s.database, Policy: s.policy, Layout: s.layout, Limits: limits, Forget: s.forget, Warn: s.log.warn}
 	if s.member != nil {
 		s.lines.Invite = func(ctx context.Context, name, place string) (string, error) {
 			found, err := s.member.Invite(ctx, name, place)
@@ -348,18 +312,15 @@ func (s *server) drain() {
 	s.handler.Drain()
 	until := time.Now().Add(drainFor - time.Second)
 	for time.Now().Before(until) {
-		if found, is := s.site.Snapshot(); !is || found.Waiting == 0 {
+		if found, is := s.database.Snapshot(); !is || found.Waiting == 0 {
 			return
 		}
 		time.Sleep(20 * time.Millisecond)
 	}
 }
 
-// closeOrder ends the order, and then the member that keeps it.
-func (s *server) closeOrder() {
-	if s.order != nil {
-		s.order.Close()
-	}
+// stopMember ends the member that keeps the order, where this server runs one.
+func (s *server) stopMember() {
 	if s.member != nil {
 		if err := s.member.Stop(); err != nil {
 			s.log.warn("%v", err)

@@ -37,7 +37,7 @@ func (s *server) tellSystem(ctx context.Context) {
 			return
 		case <-ticker.C:
 		}
-		found, is := s.site.Snapshot()
+		found, is := s.database.Snapshot()
 		if !is {
 			return
 		}

@@ -20,8 +20,8 @@ import (
 // listenHTTP answers HTTP/1.1: in HTTP/2 a client gives a request up without the kernel's knowledge.
 func (s *server) listenHTTP(ctx context.Context) error {
 	s.handler = api.New(api.Options{
-		Site: s.site, Policy: s.policy, Layout: s.layout, Hosts: s.served, Name: filepath.Base(filepath.Clean(s.data)),
-		Metrics: metrics.New(s.site, s.order, s.lines), Console: console.Handler(), Pages: console.Paths(),
+		Site: s.database, Policy: s.policy, Layout: s.layout, Hosts: s.served, Name: filepath.Base(filepath.Clean(s.data)),
+		Metrics: metrics.New(s.database, s.lines), Console: console.Handler(), Pages: console.Paths(),
 	})
 	s.web = &http.Server{
 		Handler: s.handler, ReadHeaderTimeout: 10 * time.Second, ReadTimeout: time.Minute, IdleTimeout: 5 * time.Minute,
