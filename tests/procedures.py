@@ -1,5 +1,5 @@
 """Tests of the kit for procedures (sdk/), by a program: what the stories of examples/ print, the
-programs and pictures that are committed, and, where clang is there, that they come out of their sources again."""
+programs, settings and pictures that are committed, and, where clang is there, that they come out of their sources again."""
 import glob
 import os
 import re
@@ -18,9 +18,9 @@ MADE = ("layout.json", "settings")  # beside a source of examples/, for a server
 INSTALL = f"apt-get install clang-{VERSION} libclang-rt-{VERSION}-dev"
 
 
-def ran(words, program):
+def ran(words, program, **more):
     how = {"env": {**os.environ, "DSMDB": program}, "capture_output": True, "text": True, "errors": "replace", "timeout": LIMIT}
-    return subprocess.run(words, **how)
+    return subprocess.run(words, **how, **more)
 
 
 def text_of(path):
@@ -40,6 +40,13 @@ def accepts(program, script):
         if not same or not ran([program, "check", path, args_len, *tables], program).stdout.startswith("accepted"):
             return False
     return bool(stored)
+
+
+def begins(program, settings):
+    """Whether an engine takes a server's settings as they stand, for a new database whose order opens sessions."""
+    said = [it for it in text_of(settings).splitlines() if not it.startswith("#")]
+    *dumped, last = ran([program, "site", settings], program, input="dump\n").stdout.splitlines() or [""]
+    return sorted(dumped) == sorted(said) and "origin 0 0" in said and last == f"position 0 lines {len(said)}"
 
 
 def draws(program, picture):
@@ -132,6 +139,8 @@ def run(program, tally):
     for folder in folders:
         scripts = glob.glob(f"{folder}/*.dsm")
         tally.tell(f"programs of {named(folder)}", scripts and all(accepts(program, it) for it in scripts))
+    for it in [*glob.glob(f"{workspace.ROOT}/examples/*.settings"), *(f"{it}/settings" for it in folders)]:
+        tally.tell(f"settings {named(it)}", begins(program, it))
     clang = clang_here()
     if clang:
         run_in_c(program, folders, clang, tally)

@@ -25,13 +25,19 @@ LAST_SEQUENCE = 2**32 - 1
 MOST_AHEAD = 65_536  # strings that a server makes an order longer by
 PAGE = 1000  # rows that are asked for at a time
 SETTLED = {"committed", "read", "cancelled", "conflict", "stale", "other"}
-SETTLED_REFUSALS = {"P2", "P3", "P13", "P15"}
+OUT_OF_SESSION = "P15"
+SETTLED_REFUSALS = {"P2", "P3", "P13", OUT_OF_SESSION}
 NOT_BEGUN = {"role", "rate", "token"}  # refusals that say that a call wasn't begun
 NAME = re.compile(r"[!-~]+")
 
 
 class Unsettled(Exception):
     """It isn't known whether a call was done. `settle` asks what became of it."""
+
+
+class SessionLost(Exception):
+    """A call that was asked before is refused now, since its session is over. Whether the call was done isn't told any more.
+    It won't be done later. The next call begins a new session."""
 
 
 class NothingSent(Exception):
@@ -63,6 +69,11 @@ class Answer(NamedTuple):
     @property
     def settled(self):
         return self.word in SETTLED or self.word == "refused" and self.why in SETTLED_REFUSALS
+
+    @property
+    def is_out_of_session(self):
+        """Whether the call's session is over, or has committed a call of a greater number."""
+        return self.word == "refused" and self.why == OUT_OF_SESSION
 
 
 def parse(line):
@@ -254,6 +265,7 @@ class Client:
         self._state, self._connection, self._layout = self._store.load(), None, None
         self._known = self._ahead = 0
         self._answered = False  # whether the state's call is settled, and its answer was handed on
+        self._over = False  # whether the state's session takes no calls any more
 
     def __enter__(self):
         return self
@@ -287,12 +299,11 @@ class Client:
         until = time.monotonic() + self._patience
         if args is None:
             args = self._pack(name, fields, until)
-        self._begin(until)
-        state = self._state
-        line = f"call {name} {args.hex() or '-'} {state.session} {state.next}"
-        self._save(call=line, upto=max(self._known, after) + self._ahead, next=state.next + 1)
-        self._answered = False
-        return self._settle(until, False, after, f" after {after}" * bool(after) + " fresh" * fresh)
+        answer = self._call(until, name, args, after, fresh)
+        if answer.is_out_of_session:  # its session was over before: the call wasn't done, and is asked in another one
+            self._forget()
+            answer = self._call(until, name, args, after, fresh)
+        return answer
 
     def settle(self):
         """Asks what became of the call that isn't settled, and has it done where it wasn't."""
@@ -356,6 +367,15 @@ class Client:
 
     # ---- settling
 
+    def _call(self, until, name, args, after, fresh):
+        """Calls a procedure in the client's session, or in a new one where that is over."""
+        self._begin(until)
+        state = self._state
+        line = f"call {name} {args.hex() or '-'} {state.session} {state.next}"
+        self._save(call=line, upto=max(self._known, after) + self._ahead, next=state.next + 1)
+        self._answered = False
+        return self._settle(until, False, after, f" after {after}" * bool(after) + " fresh" * fresh)
+
     def _settle(self, until, sent, after, when):
         """Asks the call until it is settled. Where an earlier ask may have left a copy behind, the call is asked on rows
         behind those on which the copy may run, so that the answer holds of that too."""
@@ -374,7 +394,9 @@ class Client:
             if answer:
                 why = answer.line
                 if answer.settled or answer.word == "fault" and not sent:
-                    self._answered = True
+                    self._answered, self._over = True, answer.is_out_of_session
+                    if self._over and sent:
+                        raise SessionLost(f"the call may have been done before, and a new session begins with the next call: {why}")
                     return self._named(answer)
                 if answer.word == "late":
                     if time.monotonic() < until:
@@ -397,8 +419,9 @@ class Client:
         raise Unsettled(why)
 
     def _forget(self):
-        self._save(call="", upto=0)
-        self._answered = False
+        """Has the store keep the call no longer, nor a session that is over."""
+        self._save(call="", upto=0, **({"session": 0, "next": 1} if self._over else {}))
+        self._answered = self._over = False
 
     def _ask_call(self, until, again, after, when):
         self._asked = False
@@ -437,11 +460,12 @@ class Client:
         for tries in range(1 << 30):
             try:
                 self._connect(until)
-                if self._state.session and self._state.next <= LAST_SEQUENCE:
+                if self._state.session and self._state.next <= LAST_SEQUENCE and not self._over:
                     return
                 answer = parse(self._connection.ask("session", SILENCE + self._within))
                 if answer.word == "session":
                     self._save(session=answer.at, next=1)
+                    self._over = False
                     return
                 if answer.word == "refused" and answer.why != "rate":
                     raise MayNot(answer.line)

@@ -21,6 +21,9 @@ func (a Answer) Done() bool { return a.Word == "committed" || a.Word == "read" }
 // settles returns whether an answer settles a call, of which a copy may have been sent before.
 func (a Answer) settles(sent bool) bool { return a.Settled() || a.Word == "fault" && !sent }
 
+// isOutOfSession returns whether the call's session is over, or has committed a call of a greater number.
+func (a Answer) isOutOfSession() bool { return a.Word == "refused" && a.Why == "P15" }
+
 // isRefusal returns whether who asked may not, so that nothing was begun.
 func (a Answer) isRefusal() bool {
 	return a.Word == "refused" && (a.Why == "role" || a.Why == "rate" || a.Why == "token")

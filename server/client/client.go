@@ -25,6 +25,9 @@ var (
 	ErrNoName = errors.New("it is no procedure's name")
 	// ErrMayNot says that a server refuses this client.
 	ErrMayNot = errors.New("the server refuses it")
+	// ErrSessionLost says that a call that was asked before is refused now, since its session is over. Whether the call was
+	// done isn't told any more. It won't be done later. The next call begins a new session.
+	ErrSessionLost = errors.New("the session was lost: the call may have been done before, and a new session begins with the next call")
 	// ErrNothingSent says that no server could be reached: nothing was asked of any.
 	ErrNothingSent = errors.New("no server was reached")
 )
@@ -55,6 +58,7 @@ type Client struct {
 	within   time.Duration
 	state    State
 	answered bool // whether the state's call is settled, and its answer was handed to the caller
+	over     bool // whether the state's session takes no calls any more
 	conn     *Conn
 	known    uint64 // the last position that a server told
 	ahead    uint64
@@ -130,6 +134,19 @@ func (c *Client) Call(ctx context.Context, name string, args []byte, when When) 
 	if !isName(name) {
 		return Answer{}, fmt.Errorf("%q: %w", name, ErrNoName)
 	}
+	answer, err := c.callOnce(ctx, name, args, when)
+	if err != nil || !answer.isOutOfSession() {
+		return answer, err
+	}
+	// the session was over before: the call wasn't done, and is asked in another one
+	if err := c.forget(); err != nil {
+		return Answer{}, err
+	}
+	return c.callOnce(ctx, name, args, when)
+}
+
+// callOnce calls a procedure in the client's session, or in a new one where that is over.
+func (c *Client) callOnce(ctx context.Context, name string, args []byte, when When) (Answer, error) {
 	if err := c.begin(ctx); err != nil {
 		return Answer{}, err
 	}
@@ -162,10 +179,23 @@ func (c *Client) Settle(ctx context.Context) (Answer, error) {
 	return c.settle(ctx, When{}, false)
 }
 
-// forget has the store keep the call no longer.
+// forget has the store keep the call no longer, nor a session that is over.
 func (c *Client) forget() error {
 	c.state.Call, c.state.Upto, c.answered = "", 0, false
+	if c.over {
+		c.state.Session, c.state.Next, c.over = 0, 1, false
+	}
 	return c.store.Save(c.state)
+}
+
+// settled notes that the call is settled by an answer. Where its session is over, and an earlier ask may have left a copy
+// behind, nobody can say any more what became of that.
+func (c *Client) settled(answer Answer, sent bool) (Answer, error) {
+	c.answered, c.over = true, answer.isOutOfSession()
+	if c.over && sent {
+		return answer, fmt.Errorf("%w: %s", ErrSessionLost, answer.Line)
+	}
+	return answer, nil
 }
 
 // settle asks the call until it is settled. Where an earlier ask may have left a copy behind, an answer has to hold of
@@ -179,8 +209,7 @@ func (c *Client) settle(ctx context.Context, when When, first bool) (Answer, err
 		case errors.As(err, &other):
 			return Answer{}, err
 		case err == nil && answer.settles(sent):
-			c.answered = true
-			return answer, nil
+			return c.settled(answer, sent)
 		case err == nil && answer.Word == "late":
 			continue // at once, with a higher bound
 		case err == nil && answer.isRefusal() && !sent && !asked:
@@ -291,7 +320,7 @@ func (c *Client) tryBegin(ctx context.Context) error {
 	if err := c.connect(ctx); err != nil {
 		return err
 	}
-	if c.state.Session != 0 && c.state.Next <= lastSequence {
+	if c.state.Session != 0 && c.state.Next <= lastSequence && !c.over {
 		return nil
 	}
 	limited, cancel := context.WithTimeout(ctx, c.within+silence)
@@ -307,7 +336,7 @@ func (c *Client) tryBegin(ctx context.Context) error {
 	if err != nil || answer.Word != "session" {
 		return fmt.Errorf("a session is asked for, and answered %s", line)
 	}
-	c.state.Session, c.state.Next = answer.At, 1
+	c.state.Session, c.state.Next, c.over = answer.At, 1, false
 	return c.store.Save(c.state)
 }
 
@@ -325,11 +354,21 @@ func (c *Client) Ask(ctx context.Context, line string) (string, error) {
 // Lines asks a line whose answer may have rows, which are handed over, on a connection of its own. Where a server ends
 // while it answers, that is an error.
 func (c *Client) Lines(ctx context.Context, line string, take func(row string) error) (string, error) {
+	return c.lines(ctx, line, isNoRow, take)
+}
+
+// LinesUntil asks a line as Lines does. Its answer has lines of any kind, which are handed over as they come, up to the one
+// that begins with the word last, or that says why there is no such answer.
+func (c *Client) LinesUntil(ctx context.Context, line, last string, take func(row string) error) (string, error) {
+	return c.lines(ctx, line, endOf(last), take)
+}
+
+func (c *Client) lines(ctx context.Context, line string, isLast func(string) bool, take func(row string) error) (string, error) {
 	for tries := 0; ; tries++ {
 		rows, answer := 0, ""
 		reached, err := c.reach(ctx)
 		if err == nil {
-			answer, err = reached.Lines(ctx, line, func(row string) error { rows++; return take(row) })
+			answer, err = reached.lines(ctx, line, isLast, func(row string) error { rows++; return take(row) })
 			reached.Close()
 		}
 		if err == nil && !strings.HasPrefix(answer, "unknown") {

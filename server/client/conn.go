@@ -25,8 +25,8 @@ type Dialer struct {
 
 // Conn is a connection to one server. One goroutine has it.
 type Conn struct {
-	net   net.Conn
-	lines *bufio.Reader
+	net  net.Conn
+	from *bufio.Reader
 }
 
 // Dial reaches a server at a place: its data folder, the path of a Unix socket, tcp://HOST:PORT or tls://HOST:PORT.
@@ -35,7 +35,7 @@ func (d *Dialer) Dial(ctx context.Context, place string) (*Conn, error) {
 	if err != nil {
 		return nil, err
 	}
-	c := &Conn{net: reached, lines: bufio.NewReaderSize(reached, 1<<16)}
+	c := &Conn{net: reached, from: bufio.NewReaderSize(reached, 1<<16)}
 	if d.Token == "" {
 		return c, nil
 	}
@@ -68,21 +68,31 @@ func (d *Dialer) reach(ctx context.Context, place string) (net.Conn, error) {
 // Ask asks a line, which is without LF, and returns the line that answers it. After an error the connection is of no use.
 func (c *Conn) Ask(ctx context.Context, line string) (string, error) {
 	defer c.until(ctx)()
-	if _, err := io.WriteString(c.net, line+"\n"); err != nil {
-		return "", fmt.Errorf("asking: %w", c.why(ctx, err))
+	if err := c.send(ctx, line); err != nil {
+		return "", err
 	}
-	answer, err := c.lines.ReadString('\n')
-	if err != nil {
-		return "", fmt.Errorf("waiting for an answer: %w", c.why(ctx, err))
-	}
-	return answer[:len(answer)-1], nil
+	return c.read(ctx)
 }
 
 // Lines asks a line whose answer has several, and hands these over up to the one that doesn't begin with a space, which is
 // returned.
 func (c *Conn) Lines(ctx context.Context, line string, take func(row string) error) (string, error) {
-	answer, err := c.Ask(ctx, line)
-	for ; err == nil && strings.HasPrefix(answer, " "); answer, err = c.next(ctx) {
+	return c.lines(ctx, line, isNoRow, take)
+}
+
+// LinesUntil asks a line whose answer has several, and hands these over as they come, up to the one that begins with the
+// word last, which is returned. A line that says why there is no such answer is returned too.
+func (c *Conn) LinesUntil(ctx context.Context, line, last string, take func(row string) error) (string, error) {
+	return c.lines(ctx, line, endOf(last), take)
+}
+
+func (c *Conn) lines(ctx context.Context, line string, isLast func(string) bool, take func(row string) error) (string, error) {
+	defer c.until(ctx)()
+	if err := c.send(ctx, line); err != nil {
+		return "", err
+	}
+	answer, err := c.read(ctx)
+	for ; err == nil && !isLast(answer); answer, err = c.read(ctx) {
 		if err := take(answer); err != nil {
 			return "", err
 		}
@@ -90,11 +100,28 @@ func (c *Conn) Lines(ctx context.Context, line string, take func(row string) err
 	return answer, err
 }
 
-func (c *Conn) next(ctx context.Context) (string, error) {
-	defer c.until(ctx)()
-	answer, err := c.lines.ReadString('\n')
+func isNoRow(line string) bool { return !strings.HasPrefix(line, " ") }
+
+// endOf returns the test for the line at which an answer of several lines ends: the line of a word, or a refusal. No line of
+// settings begins like one of these.
+func endOf(word string) func(line string) bool {
+	return func(line string) bool {
+		first, _, more := strings.Cut(line, " ")
+		return more && (first == word || first == "refused" || first == "unknown" || first == "fault")
+	}
+}
+
+func (c *Conn) send(ctx context.Context, line string) error {
+	if _, err := io.WriteString(c.net, line+"\n"); err != nil {
+		return fmt.Errorf("asking: %w", c.why(ctx, err))
+	}
+	return nil
+}
+
+func (c *Conn) read(ctx context.Context) (string, error) {
+	answer, err := c.from.ReadString('\n')
 	if err != nil {
-		return "", fmt.Errorf("reading rows: %w", c.why(ctx, err))
+		return "", fmt.Errorf("waiting for an answer: %w", c.why(ctx, err))
 	}
 	return answer[:len(answer)-1], nil
 }

@@ -9,7 +9,7 @@ const make = (kind, text, ...inside) => {
 
 const option = name => Object.assign(make("option", name), { value: name })
 
-let procedures = [], layout = { tables: [], codes: {} }, pair = null, unsettled = null, next = "0"
+let procedures = [], layout = { tables: [], codes: {} }, pair = null, unsettled = null, next = "0", ordersShown = ""
 
 async function asked(path, body) {
   const headers = {}
@@ -23,8 +23,9 @@ async function asked(path, body) {
 // ---- now
 
 const shown = [
-  ["position", "position"], ["end of the order", "end"], ["committed", "committed"], ["refused", "refused"],
-  ["nothing", "nothing"], ["waiting requests", "waiting"], ["engine restarts", "engine_restarts"], ["database", "database"],
+  ["position", "position"], ["end of the order", "end"], ["number of the order", "order"], ["committed in the order", "committed"],
+  ["refused in the order", "refused"], ["nothing in the order", "nothing"], ["waiting requests", "waiting"],
+  ["engine restarts", "engine_restarts"], ["database", "database"],
 ]
 const samples = []
 
@@ -45,6 +46,15 @@ function draw(committed) {
   find("per-second").textContent = rates.length ? Math.round(rates[rates.length - 1]).toLocaleString("en") : "0"
 }
 
+function showOrders(orders) {
+  if (JSON.stringify(orders) === ordersShown) return
+  ordersShown = JSON.stringify(orders)
+  const first = it => String(BigInt(it.before) + 1n)
+  find("orders").replaceChildren(
+    make("tr", undefined, ...["order", "first position", "last position"].map(one => make("th", one))),
+    ...orders.map(it => make("tr", undefined, make("td", it.order), make("td", first(it)), make("td", it.end || "goes on"))).reverse())
+}
+
 async function look() {
   const state = find("state")
   try {
@@ -54,6 +64,7 @@ async function look() {
     state.className = "state " + kind
     find("server").textContent = it.server || ""
     find("now").replaceChildren(...shown.map(([name, field]) => make("div", undefined, make("dt", name), make("dd", it[field]))))
+    showOrders(it.orders || [])
     draw(Number(it.committed))
   } catch (fault) {
     state.textContent = "no answer"
@@ -81,6 +92,7 @@ function argsOf() {
   return Object.fromEntries(inputs.map(it => [it.dataset.field, it.value]))
 }
 
+const isSessionOver = it => it.rule === "P15"
 const isSettled = it => it.ok || [409, 422, 400, 403].includes(it.status) && !/^(late|refused P9)/.test(it.answer || "")
 
 function tell(name, it) {
@@ -92,28 +104,44 @@ function tell(name, it) {
   while (find("answers").children.length > 50) find("answers").lastChild.remove()
 }
 
+// asks the call that isn't settled, which may end its session
+async function ask(more) {
+  const answer = await asked("v1/call/" + unsettled.name, { ...unsettled.body, ...more })
+  if (isSettled(answer)) unsettled = null
+  if (isSessionOver(answer)) pair = null
+  return answer
+}
+
+// settles an earlier call; returns whether the call that is asked for is still to be made
+async function settle(name) {
+  const earlier = unsettled
+  const same = earlier.name === name && JSON.stringify(earlier.body.args) === JSON.stringify(argsOf())
+  const answer = await ask({ fresh: true })
+  if (isSessionOver(answer)) answer.detail = "it may have been done before; a new session begins with the next call"
+  tell((same ? "" : "earlier ") + earlier.name, answer)
+  return !unsettled && !same
+}
+
+// asks a call for the first time; returns what was answered, and by what
+async function askFirst(name) {
+  if (!pair) {
+    const begun = await asked("v1/sessions", {})
+    if (!begun.ok) return ["session", begun]
+    pair = { session: begun.session, sequence: 0 }
+  }
+  pair.sequence += 1
+  unsettled = { name, body: { args: argsOf(), session: pair.session, sequence: String(pair.sequence), fresh: find("fresh").checked } }
+  return [name, await ask()]
+}
+
 async function call(event) {
   event.preventDefault()
   const name = find("procedure").value
   try {
-    if (!pair) {
-      const begun = await asked("v1/sessions", {})
-      if (!begun.ok) return tell("session", begun)
-      pair = { session: begun.session, sequence: 0 }
-    }
-    if (unsettled) {
-      const same = unsettled.name === name && JSON.stringify(unsettled.body.args) === JSON.stringify(argsOf())
-      const earlier = await asked("v1/call/" + unsettled.name, { ...unsettled.body, fresh: true })
-      tell((same ? "" : "earlier ") + unsettled.name, earlier)
-      if (!isSettled(earlier)) return
-      unsettled = null
-      if (same) return look() // the call that was asked for is that one
-    }
-    pair.sequence += 1
-    unsettled = { name, body: { args: argsOf(), session: pair.session, sequence: String(pair.sequence), fresh: find("fresh").checked } }
-    const answer = await asked("v1/call/" + name, unsettled.body)
-    if (isSettled(answer)) unsettled = null
-    tell(name, answer)
+    if (unsettled && !await settle(name)) return look()
+    let [of, answer] = await askFirst(name)
+    if (isSessionOver(answer)) [of, answer] = await askFirst(name) // the call wasn't done, and is asked in another session
+    tell(of, answer)
   } catch (fault) {
     tell(name, { title: "no answer", detail: "the next call asks what became of this one" })
   }
