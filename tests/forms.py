@@ -28,7 +28,10 @@ sys.path.append(f"{os.path.dirname(os.path.realpath(__file__))}/../gate")
 import workspace
 
 FOLDER = f"{workspace.ROOT}/tests/forms"
-LAST = {"1": "4ca7eb40f13140964ea5960dd1eee1a8e85057d235dff36c724ad0acf237a4b2"}  # by form, the sum of its last block
+LAST = {  # by form, the sum of its last block
+    "1": "4ca7eb40f13140964ea5960dd1eee1a8e85057d235dff36c724ad0acf237a4b2",
+    "2": "e3c927b37fc00ae24e9a4689d56a92aaa54fd8fd59f7ce658c7bb8723ec029f4",
+}
 LIMIT = 120  # seconds, after which a program has failed
 
 

@@ -5,7 +5,7 @@ import tempfile
 import serving
 from serving import Tree
 
-FUZZED = [("batch", "FuzzRead"), ("wire", "FuzzRead"), ("wire", "FuzzReadEntry"), ("layout", "FuzzPack"), ("api", "FuzzCall")]
+FUZZED = [("batch", "FuzzRead"), ("wire", "FuzzRead"), ("wire", "FuzzReadEntry"), ("ends", "FuzzOf"), ("layout", "FuzzPack"), ("api", "FuzzCall")]
 SECONDS = 20  # of fuzzing, for each
 MINUTES = 5  # that the tests of a package may take
 

@@ -1,4 +1,4 @@
-"""The console in a headless browser: status, a call, rows, an error."""
+"""The console in a headless browser: status, a call, rows, an error, orders that end."""
 import base64
 import contextlib
 import json
@@ -81,7 +81,8 @@ class Console(ServerTest):
             json.dump({"roles": [{"name": "clerk", "tokens": [hashed], "call": ["*"], "rights": ["rows"]}]}, file)
         web = free_port()
         more = ["--http", f"127.0.0.1:{web}", "--layout", f"{ROOT}/examples/ledger/layout.json", "--roles", f"{self.folder}/roles"]
-        self.serve("ledger", *more).begun()
+        more += ["--keep", "0s"]
+        server = self.serve("ledger", *more).begun()
         browser = Browser(self.folder)
         self.addCleanup(browser.close)
         browser.do("POST", "/url", {"url": f"http://127.0.0.1:{web}/"})
@@ -108,8 +109,38 @@ class Console(ServerTest):
         browser.click("#scan button")
         until(lambda: "5000" in browser.text("#rows") or "fault L2" in browser.text("#rows-said"))
         until(lambda: browser.text("#per-second") != "")
+        self.look_at_orders(browser, server)
         picture = base64.b64decode(browser.do("GET", "/screenshot"))
         self.assertTrue(picture.startswith(b"\x89PNG"))
         if path := os.environ.get("SCREENSHOT"):
             with open(path, "wb") as file:
                 file.write(picture)
+        server.kill()
+        self.lose_a_session(browser, lambda: self.serve("ledger", *more).begun())
+
+    def look_at_orders(self, browser, server):
+        """Ends two orders. The page's session does nothing in the second, and is closed: the page begins another one."""
+        head = "order first position last position"
+        self.assertEqual(browser.text("#orders").splitlines(), [head, "1 1 goes on"])
+        # behind the first string: the page's session, `open` and `deposit`
+        for how, shown in (((), ["2 5 goes on", "1 1 4"]), (("--idle",), ["3 6 goes on", "2 5 5", "1 1 4"])):
+            self.assertEqual(self.client("roll", "--at", server.data, *how)[0], 0)
+            until(lambda: browser.text("#orders").splitlines() == [head, *shown])
+        browser.fill('#fields input[data-field="amount"]', "300")
+        browser.click("#call button")
+        # behind the third order's first string and the other session
+        until(lambda: browser.text("#answers li") == "deposit: committed 8, reply 0")
+        browser.click("#scan button")
+        until(lambda: "5300" in browser.text("#rows"))
+
+    def lose_a_session(self, browser, start):
+        """Calls where no server is, and again where the page's session was closed meanwhile: it committed in the order before."""
+        browser.click("#call button")
+        until(lambda: "no answer" in browser.text("#answers li"))
+        server = start()
+        for _ in range(2):
+            self.assertEqual(self.client("roll", "--at", server.data, "--idle")[0], 0)
+        browser.click("#call button")
+        until(lambda: "may have been done before; a new session begins" in browser.text("#answers li"))
+        browser.click("#call button")
+        until(lambda: browser.text("#answers li").startswith("deposit: committed "))

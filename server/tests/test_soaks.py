@@ -28,10 +28,13 @@ class SoakOnSmallDisks(test_transfers.TransfersOverPartitions):
             self.addCleanup(subprocess.run, ["umount", "--lazy", path])
         return super().begin()
 
-    def fault(self, servers):
+    def revive(self, servers):
         for name, it in servers.items():
             if it.process.poll() is not None and "no space left" in it.text():
                 servers[name] = self.start(name)
+        super().revive(servers)
+
+    def fault(self, servers):
         if self.random.random() < 0.9:
             super().fault(servers)
             return
@@ -51,7 +54,7 @@ class SoakWithFlippedBits(SoakOnSmallDisks):
             return
         name = self.random.choice(self.names)
         servers[name].kill()
-        flip(self.random, self.random.choice(glob.glob(f"{self.folder}/{name}/order-0000000001/*.segment")))
+        flip(self.random, self.random.choice(glob.glob(f"{self.folder}/{name}/order-*/*.segment")))
         servers[name] = self.start(name)
 
 
@@ -60,22 +63,25 @@ class SoakWithAWrongEngine(SoakOnSmallDisks):
 
     WRONG = "three"
 
-    def start(self, name):
+    def start(self, name, *more):
         if name != self.WRONG:
-            return super().start(name)
+            return super().start(name, *more)
         program = f"{self.folder}/wrong-engine"
         with open(program, "w", opener=lambda *it: os.open(*it, mode=0o700)) as file:
             file.write(f"#!/bin/sh\nexec {sys.executable} {HERE}/wrong_engine.py {fixtures.ENGINE} 100 \"$@\"\n")
         host = ["ip", "netns", "exec", self.hosts[name]]
-        return self.serve(name, "--insecure", limits=host, engine=program)
+        return self.serve(name, "--insecure", *more, limits=host, engine=program)
 
-    def fault(self, servers):
+    def revive(self, servers):
         wrong = servers.get(self.WRONG)
-        if wrong and wrong.process.poll() is not None:
+        if wrong and wrong.process.poll() is not None and "no space left" not in wrong.text():
             self.assertIn("other servers came to other answers", wrong.text())
             self.names = tuple(it for it in self.names if it != self.WRONG)
             del servers[self.WRONG]
-        if not wrong:
+        super().revive(servers)
+
+    def fault(self, servers):
+        if self.WRONG not in servers:
             super().fault(servers)
         time.sleep(1)
 

@@ -1,8 +1,10 @@
 """Clients who transfer amounts between accounts, and faults that are drawn: what they were answered is what stands in the
 order, once."""
 import contextlib
+import glob
 import os
 import random
+import re
 import shutil
 import signal
 import subprocess
@@ -22,7 +24,8 @@ import dsmdb
 SEED = int(os.environ.get("SEED", "1"))
 SECONDS = int(os.environ.get("SECONDS", "12"))
 ACCOUNTS = 64
-CUT_OFF = (1, 1)  # the pair of a call of nothing that a server which is cut off is asked for; it may be done later
+CUT_OFF = (4294967295, 1)  # the pair of a call that a server which is cut off is asked for, of a session that nobody has
+STEPS = ("end", "dump", "saved", "opened")  # of a roll, at each of which a server may die
 
 
 def at_row(register, change):
@@ -37,7 +40,7 @@ TRANSFER = (
     + at_row(6, "1f81000000000000") + at_row(7, "0f81000000000000") + at_row(9, "0701000001000000")
     + "79a0f8ff000000009500000000000000"
 )
-TRANSFERS = f"window 64\ntable 1 8\nproc transfer 1 32 {TRANSFER}\n"
+TRANSFERS = f"window 64\ntable 1 8\norigin 0 0\nproc transfer 1 32 {TRANSFER}\n"
 
 
 class Client(threading.Thread):
@@ -149,17 +152,42 @@ class Transfers(ServerTest):
     def setUp(self):
         super().setUp()
         self.settings(TRANSFERS)
-        self.random = random.Random(SEED)
+        self.random, self.rolled, self.saved = random.Random(SEED), set(), {}
         print(f"(seed {SEED}, {SECONDS} s) ", end="", flush=True)
 
     def words_of(self, name):
         return []
 
-    def start(self, name):
-        return self.serve(name, *self.words_of(name))
+    def start(self, name, *more):
+        return self.serve(name, *self.words_of(name), *more)
+
+    def revive(self, servers):
+        """Starts the servers again that have died at a step of a roll, as they were told to."""
+        for name, it in servers.items():
+            if it.process.poll() is None:
+                continue
+            if "is gone: it was forgotten" in it.text():
+                self.fetch(name, servers)
+            else:
+                self.assertEqual(it.process.returncode, -signal.SIGKILL, it.text())
+            servers[name] = self.start(name)
+
+    def begun(self, servers, name):
+        """Returns a server that answers, which is started again where it has died at a step of a roll."""
+        while True:
+            try:
+                return servers[name].begun()
+            except AssertionError:
+                self.revive(servers)
+
+    def fetch(self, name, servers):
+        """Gets the settings of the present order for a server whose own orders were forgotten."""
+        others = [word for it in servers.values() if it.name != name for word in ("--at", it.data)]
+        status, said = self.client("fetch", *others, "--data", f"{self.folder}/{name}")
+        self.assertEqual(status, 0, said)
 
     def test_transfers(self):
-        servers = {it: self.start(it) for it in self.names}
+        self.servers = servers = {it: self.start(it) for it in self.names}
         for it in servers.values():
             it.begun()
         end = time.monotonic() + SECONDS
@@ -168,27 +196,55 @@ class Transfers(ServerTest):
             it.start()
         while time.monotonic() < end:
             time.sleep(self.random.random())
-            self.fault(servers)
+            self.revive(servers)
+            if self.rolled:
+                self.fault(servers)
+            else:
+                self.roll(servers[self.random.choice(self.names)])
         self.mend()
+        self.revive(servers)
         for it in clients:
             it.join()
         self.assertEqual([it.faults for it in clients], [[], [], []])
-        for it in servers.values():
-            it.begun()
+        for name in self.names:
+            self.begun(servers, name)
         self.assert_true(servers, clients)
 
     def fault(self, servers):
         name = self.random.choice(self.names)
         chosen = self.random.random()
-        if chosen < 0.4:
+        if chosen < 0.2:
             servers[name].kill()
-            servers[name] = self.start(name)
+            servers[name] = self.start(name, "--die-at", self.random.choice(STEPS))
+        elif chosen < 0.4:
+            self.roll(servers[name])
+        elif chosen < 0.45:
+            self.forget(servers[name])
         elif chosen < 0.6:
-            os.kill(servers[name].begun().engine(), signal.SIGKILL)
+            os.kill(self.begun(servers, name).engine(), signal.SIGKILL)
         else:
             servers[name].kill(signal.SIGSTOP)
             time.sleep(2 * self.random.random())
             servers[name].kill(signal.SIGCONT)
+
+    def roll(self, server):
+        """Has the order end at a server, which may die of that."""
+        with contextlib.suppress(OSError, IndexError, ValueError):
+            order = int(server.ask("hello").split(" ")[2])
+            if server.ask(f"roll {order}").startswith("rolled "):
+                self.rolled.add(order)
+
+    def forget(self, server):
+        """Has orders deleted that have ended, and that are whole on the server's disk."""
+        with contextlib.suppress(OSError, IndexError, ValueError):
+            below = int(server.ask("hello").split(" ")[2])
+            for number in range(1, below):
+                if number not in self.saved:
+                    self.saved[number] = self.texts(server.name, number)
+                if not is_ended(self.saved[number]):
+                    del self.saved[number]
+                    return
+            server.ask(f"forget {below}")
 
     def mend(self):
         """Ends the faults of what is below the servers."""
@@ -196,6 +252,7 @@ class Transfers(ServerTest):
     def assert_true(self, servers, clients):
         """Asserts that what clients were answered is what stands in the order, and that all servers have it."""
         first = servers[self.names[0]]
+        self.assertGreater(len(self.rolled), 0)
         session = int(first.ask("session").split(" ")[1])
         end = int(first.ask(f"call transfer {words(0, 0, 0, 2000)} {session} 1 fresh").split(" ")[1])
         more = self.newcomer()
@@ -210,7 +267,7 @@ class Transfers(ServerTest):
             self.assertGreater(len(committed), 0)
         heard = [(pair, answer) for it in clients for pair, answer in it.answers.items()]
         told = {int(answer[1]): pair for pair, answer in heard if answer[0] == "committed"} | {end: (session, 1)}
-        found = {at: pair for at, pair in self.commits().items() if pair != CUT_OFF}
+        found = {at: pair for at, pair in self.commits(end).items() if pair != CUT_OFF}
         self.assertEqual((found.items() - told.items(), told.items() - found.items()), (set(), set()))
 
     def newcomer(self):
@@ -224,15 +281,51 @@ class Transfers(ServerTest):
             found.append((status["position"], status["end"], status["digest"], it.rows()))
         return found[0][0] == found[0][1] and all(it == found[0] for it in found)
 
-    def strings(self):
-        return orders.strings(f"{self.folder}/one/order-0000000001")
+    def texts(self, name, number):
+        """Returns the strings of an order that a server has on its disk."""
+        return orders.strings(f"{self.folder}/{name}/order-{number:010}")
 
-    def commits(self):
-        """Returns the pair of each commit by its position, as an engine that is given the order says."""
-        process = fixtures.engine(TRANSFERS, self.folder)
-        said, _ = process.communicate("".join(f"entry {it.hex() or '-'}\n" for it in self.strings()), timeout=4 * LONG)
-        found = [it.split(" ") for it in said.splitlines()]
-        return {int(it[1]): (int(it[6]), int(it[8])) for it in found if it[2] == "commit"}
+    def whole(self, number, before, end):
+        """Returns the strings of an order that has ended, or that has come to a position of the database."""
+
+        def found():
+            for texts in (self.saved.get(number, []), *(self.texts(it, number) for it in os.listdir(self.folder))):
+                if is_ended(texts) or before + len(texts) >= end:
+                    return texts
+
+        return until(found)
+
+    def settings_of(self, number):
+        """Returns the settings of an order as servers have kept them; None where none has."""
+        found = set()
+        for path in glob.glob(f"{self.folder}/*/settings-{number:010}"):
+            with open(path) as file:
+                found.add(file.read())
+        self.assertLessEqual(len(found), 1)
+        return found.pop() if found else None
+
+    def commits(self, end):
+        """Returns the pair of each commit by its position, as an engine says that is given one order behind the other."""
+        found, settings, number, before = {}, TRANSFERS, 1, 0
+        while True:
+            texts = self.whole(number, before, end)
+            last = next((at for at, text in enumerate(texts) if at > 0 and text[:2] == b"\0\3"), len(texts))
+            process = fixtures.engine(settings, self.folder)
+            said, _ = process.communicate("".join(f"entry {it.hex() or '-'}\n" for it in texts[:last]) + "dump\n", timeout=4 * LONG)
+            lines = [it.split(" ") for it in said.splitlines() if it.startswith("entry ")]
+            found |= {before + int(it[1]): (int(it[6]), int(it[8])) for it in lines if it[2] == "commit"}
+            if last == len(texts):
+                return found
+            dumped = said[said.index("window ") : said.rindex("position ")]
+            number, before = number + 1, before + last
+            settings = self.settings_of(number)
+            self.assertIn(settings and settings.split("\n", 1)[1], (None, dumped))
+            settings = dumped
+
+
+def is_ended(texts):
+    """Whether there is a string that ends an order."""
+    return any(it[:2] == b"\0\3" for it in texts[1:])
 
 
 @unittest.skipUnless(THERE, NOT_THERE)
@@ -280,18 +373,14 @@ class TransfersOverEtcd(Transfers):
             relay.cuts = False
 
     def newcomer(self):
-        return [self.serve("four", *self.words_of("four")).begun()]
+        found = self.start("four")
+        if "is gone: it was forgotten" in until(lambda: re.search("answers from|is gone: it was forgotten", found.text())).group():
+            self.fetch("four", self.servers)
+            found = self.start("four")
+        return [found.begun()]
 
-    def strings(self):
-        def whole():
-            found = orders.strings(f"{self.folder}/four/order-0000000001", journal=True, signed=True)
-            return found if len(found) >= self.end else None
-
-        return until(whole)
-
-    def are_alike(self, servers, end):
-        self.end = end
-        return super().are_alike(servers, end)
+    def texts(self, name, number):
+        return orders.strings(f"{self.folder}/{name}/order-{number:010}", journal=True, signed=True)
 
 
 class TransfersOverACluster(Transfers):
@@ -308,16 +397,8 @@ class TransfersOverACluster(Transfers):
         members = ",".join(f"{it}=http://127.0.0.1:{free_port()}" for it in self.names)
         return self.client("begin", *(f"{self.folder}/{it}" for it in self.names), "--cluster", members)
 
-    def strings(self):
-        def whole():
-            found = orders.strings(f"{self.folder}/one/order-0000000001", journal=True, signed=True)
-            return found if len(found) >= self.end else None
-
-        return until(whole)
-
-    def are_alike(self, servers, end):
-        self.end = end
-        return super().are_alike(servers, end)
+    def texts(self, name, number):
+        return orders.strings(f"{self.folder}/{name}/order-{number:010}", journal=True, signed=True)
 
 
 @unittest.skipUnless(os.geteuid() == 0 and shutil.which("ip"), "partitions ask for root and for ip (apt-get install iproute2)")
@@ -348,8 +429,8 @@ class TransfersOverPartitions(TransfersOverACluster):
         members = ",".join(f"{it}=http://10.99.0.{number}:2380" for number, it in enumerate(self.names, 1))
         return self.client("begin", *(f"{self.folder}/{it}" for it in self.names), "--cluster", members, "--insecure")
 
-    def start(self, name):
-        return self.serve(name, "--insecure", limits=["ip", "netns", "exec", self.hosts[name]])
+    def start(self, name, *more):
+        return self.serve(name, "--insecure", *more, limits=["ip", "netns", "exec", self.hosts[name]])
 
     def fault(self, servers):
         if self.random.random() < 0.3:
@@ -359,7 +440,7 @@ class TransfersOverPartitions(TransfersOverACluster):
         ip("-n", self.bridge, "link", "set", name, "down")
         if not self.cut:
             self.cut = True
-            self.assert_cut_off(servers[name].begun())
+            self.assert_cut_off(self.begun(servers, name))
         time.sleep(1 + 2 * self.random.random())
         ip("-n", self.bridge, "link", "set", name, "up")
 
