@@ -23,7 +23,10 @@ import (
 	"dsmdb/server/wire"
 )
 
-const longestBody = 1 << 20 // bytes of a request
+const (
+	longestBody = 1 << 20         // bytes of a request
+	patience    = 2 * time.Second // for which a server is waited for that is asked of itself
+)
 
 // Options are what a handler is made of.
 type Options struct {
@@ -415,11 +418,11 @@ func (h *Handler) layout(w http.ResponseWriter, _ *http.Request) {
 }
 
 func (h *Handler) ready(w http.ResponseWriter, _ *http.Request) {
-	found, is := h.Site.Snapshot()
+	found, err := h.Site.Look(patience)
 	why := ""
 	switch {
-	case !is:
-		why = "the server is ending"
+	case err != nil:
+		why = err.Error()
 	case found.Silent:
 		why = fmt.Sprintf("other servers came to other answers from position %d on", found.DivergedSince)
 	case !found.CaughtUp:
@@ -436,22 +439,22 @@ func (h *Handler) ready(w http.ResponseWriter, _ *http.Request) {
 	io.WriteString(w, "ok\n")
 }
 
-// orders tells of the orders that are known, and where each but the last one ended.
+// orders tells of the orders that are known, and where each ended whose next one is known.
 func (h *Handler) orders() []map[string]string {
-	all := []map[string]string{}
+	all, last := []map[string]string{}, uint64(0)
 	for _, it := range h.Site.Spans() {
-		if len(all) > 0 {
+		if len(all) > 0 && it.Number == last+1 {
 			all[len(all)-1]["end"] = number(it.Before)
 		}
-		all = append(all, map[string]string{"order": number(it.Number), "before": number(it.Before)})
+		all, last = append(all, map[string]string{"order": number(it.Number), "before": number(it.Before)}), it.Number
 	}
 	return all
 }
 
 func (h *Handler) status(w http.ResponseWriter, _ *http.Request) {
-	found, is := h.Site.Snapshot()
-	if !is {
-		tell(w, problem{Status: http.StatusServiceUnavailable, Title: "the server is ending"})
+	found, err := h.Site.Look(patience)
+	if err != nil {
+		tell(w, problem{Status: http.StatusServiceUnavailable, Title: err.Error(), Detail: "ask again, or another server"})
 		return
 	}
 	it := map[string]any{

@@ -14,7 +14,11 @@ import (
 	"time"
 )
 
-const settingsPrefix = "settings-" // of the settings of each order that this server has begun behind another
+const (
+	settingsPrefix = "settings-" // of the settings of each order that this server goes on with behind another
+	fetchedSuffix  = ".fetched"  // of a file that says that they are another server's
+	replacedSuffix = ".replaced" // of those that were there before others were fetched
+)
 
 func (f *Folder) settings(number uint64) string {
 	return filepath.Join(f.path, fmt.Sprintf("%s%010d", settingsPrefix, number))
@@ -23,6 +27,28 @@ func (f *Folder) settings(number uint64) string {
 // SaveSettings keeps the settings of an order, whole or not at all.
 func (f *Folder) SaveSettings(number uint64, text []byte) error {
 	return Write(f.settings(number), text)
+}
+
+// SaveFetched keeps the settings of an order that another server has begun. Settings that were kept before under that
+// number are kept beside.
+func (f *Folder) SaveFetched(number uint64, text []byte) error {
+	path := f.settings(number)
+	if err := os.Rename(path, path+replacedSuffix); err != nil && !errors.Is(err, fs.ErrNotExist) {
+		return err
+	}
+	if err := Write(path+fetchedSuffix, nil); err != nil {
+		return err
+	}
+	return Write(path, text)
+}
+
+// WereFetched returns whether the settings of an order are another server's.
+func (f *Folder) WereFetched(number uint64) (bool, error) {
+	_, err := os.Stat(f.settings(number) + fetchedSuffix)
+	if errors.Is(err, fs.ErrNotExist) {
+		return false, nil
+	}
+	return err == nil, err
 }
 
 // Settings returns the settings of an order that are kept.
@@ -70,15 +96,27 @@ func (f *Folder) ForgetSettings(below uint64) error {
 		if number >= below {
 			break
 		}
-		if err := os.Remove(f.settings(number)); err != nil && !errors.Is(err, fs.ErrNotExist) {
-			return err
+		for _, suffix := range []string{"", fetchedSuffix, replacedSuffix} {
+			if err := os.Remove(f.settings(number) + suffix); err != nil && !errors.Is(err, fs.ErrNotExist) {
+				return err
+			}
 		}
 	}
 	return Force(f.path)
 }
 
+// BeginFirst notes that the first order begins now, where there is no order yet.
+func (f *Folder) BeginFirst() error {
+	found, err := f.OrderFolders()
+	if err != nil || len(found) > 0 {
+		return err
+	}
+	now := time.Now()
+	return os.Chtimes(filepath.Join(f.path, markName), now, now)
+}
+
 // BegunAt returns when the order of a number was begun at this server: when its settings were kept, or, of the first one,
-// when the folder was made.
+// what BeginFirst has noted.
 func (f *Folder) BegunAt(number uint64) (time.Time, error) {
 	path := filepath.Join(f.path, markName)
 	if number > 1 {

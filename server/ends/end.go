@@ -77,7 +77,7 @@ func Of(text []byte, tables []Table) (*End, bool) {
 	end := &End{}
 	for len(rest) > 0 {
 		at := bytes.IndexByte(rest, '\n')
-		if line := string(rest[:at]); line != "" && line[0] != '#' && !end.Read(line) || !isSettingsLine(rest[:at]) {
+		if line := string(rest[:at]); !isSettingsLine(rest[:at]) || line != "" && line[0] != '#' && !end.Read(line) {
 			return nil, false
 		}
 		rest = rest[at+1:]
@@ -99,6 +99,8 @@ func isSettingsLine(line []byte) bool {
 func (e *End) Read(line string) bool {
 	fields := strings.Split(line, " ")
 	switch {
+	case len(line) > longestLine:
+		return false
 	case fields[0] == "window" && len(fields) == 2 && e.Window == 0:
 		width, ok := numberFrom1(fields[1], widestWindow)
 		e.Window = uint32(width)

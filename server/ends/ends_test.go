@@ -43,6 +43,14 @@ func TestWhatEndsAnOrder(t *testing.T) {
 	}
 }
 
+func TestARemarkIsNoLongerThanALine(t *testing.T) {
+	for length, want := range map[int]bool{34_997: true, 34_998: false} {
+		if is := (&End{}).Read("about " + strings.Repeat("00", length)); is != want {
+			t.Errorf("%d bytes: %v", length, is)
+		}
+	}
+}
+
 func TestEndsAreReadAsTheyWereWritten(t *testing.T) {
 	for _, it := range []End{{}, {Idle: true}, {Window: 7, Tables: []Table{{2, 8}, {9, 1}}, Idle: true, About: []string{"c0ffee"}}} {
 		if found, is := Of(it.Bytes(), there); !is || !reflect.DeepEqual(*found, it) {

@@ -56,7 +56,7 @@ func serving(t *testing.T, limits Limits, rows string, try func(t *testing.T, s 
 			running := site.NewDatabase(site.DatabaseOptions{
 				Site: site.Options{Number: 1, Maker: batch.ID{1}, Patience: time.Minute, Say: quiet, Warn: quiet},
 				Open: func(uint64, batch.ID, func() batch.Vote) (order.Order, error) { return over, nil },
-				Start: func(context.Context, []byte) (site.Engine, error) {
+				Start: func(context.Context, uint64, []byte) (site.Engine, error) {
 					return &engineOf{answers: make(chan []byte, 100), rows: rows}, nil
 				},
 			})

@@ -10,7 +10,9 @@ import (
 //
 //	00 01  and the SHA-256 of the settings: the first of an order. 02 behind it says that the order opens sessions, and
 //	       can end
-//	00 02  and 16 random bytes: a session, whose number is its position
+//	00 02  and 16 random bytes: a session. Its number is the string's position, or what the engine says where the order
+//	       opens sessions
+//	00 03  and lines: the end of an order (package ends)
 //	00     alone: what an order is made longer by
 
 // Filling is a string by which an order is made longer.
@@ -26,7 +28,7 @@ func First(settings []byte, opensSessions bool) []byte {
 	return first
 }
 
-// NewSession returns a string whose position is a session's number.
+// NewSession returns a string that begins a session.
 func NewSession() ([]byte, error) {
 	drawn := make([]byte, 18)
 	drawn[1] = 2

@@ -63,6 +63,9 @@ func (a *Answer) IsFinal() bool {
 	return false
 }
 
+// restsOnRows returns whether an answer may be wrong where a server has come to other rows than others.
+func (k Kind) restsOnRows() bool { return k != Text && k != Unknown && k != Rolled }
+
 // behind returns an answer by positions of an order, as one by positions of the database, of which some came before.
 func (a Answer) behind(before uint64) Answer {
 	switch a.Kind {

@@ -271,12 +271,13 @@ func (s *Site) isThere(r *Request) bool {
 	return true
 }
 
-// tell answers a request, once, by positions of this order. While votes disagree nothing that rests on the rows is told.
+// tell answers a request, once, by positions of this order. What rests on the rows is held while votes disagree, or while
+// none of others is there that is waited for.
 func (s *Site) tell(r *Request, answer Answer) {
 	if r.done.Load() {
 		return
 	}
-	if s.isSilent() && answer.Kind != Text && answer.Kind != Unknown {
+	if s.holdsAnswers() && answer.Kind.restsOnRows() {
 		r.held = answer
 		return
 	}

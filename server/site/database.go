@@ -2,10 +2,12 @@ package site
 
 import (
 	"context"
+	"errors"
 	"fmt"
 	"runtime/debug"
 	"sync"
 	"sync/atomic"
+	"time"
 
 	"dsmdb/server/batch"
 	"dsmdb/server/order"
@@ -32,8 +34,8 @@ type DatabaseOptions struct {
 	// Open opens the order of a number. Of is the identity of its database, zeros where that isn't known. Vote returns what
 	// the server's engine has come to.
 	Open func(number uint64, of batch.ID, vote func() batch.Vote) (order.Order, error)
-	// Start starts an engine over settings.
-	Start func(ctx context.Context, settings []byte) (Engine, error)
+	// Start starts an engine over the settings of an order.
+	Start func(ctx context.Context, number uint64, settings []byte) (Engine, error)
 	// Earlier are the orders before that are known, the first one first.
 	Earlier []Span
 }
@@ -68,10 +70,7 @@ func (d *Database) hold(after *Site, requests []*Request) bool {
 	defer d.mutex.Unlock()
 	switch {
 	case d.ended:
-		for _, r := range requests {
-			r.Asker.Answer(r, Answer{Kind: Unknown, Text: IsStopping})
-			r.Asker.Flush()
-		}
+		stopping(requests)
 	case d.site.Load() != after:
 		return false
 	default:
@@ -92,6 +91,35 @@ func (d *Database) Snapshot() (Snapshot, bool) {
 		if !d.another(found) {
 			return Snapshot{}, false
 		}
+	}
+}
+
+var (
+	// ErrEnded says that the last site has ended.
+	ErrEnded = errors.New("the server is ending")
+	// ErrBusy says that a site doesn't answer for now, as where an order ends and the rows are many.
+	ErrBusy = errors.New("the server goes on to another order")
+)
+
+// Look returns what is known of the site of the present order, or why that isn't known in time.
+func (d *Database) Look(within time.Duration) (Snapshot, error) {
+	type seen struct {
+		found Snapshot
+		is    bool
+	}
+	looked := make(chan seen, 1)
+	go func() {
+		found, is := d.Snapshot()
+		looked <- seen{found, is}
+	}()
+	select {
+	case it := <-looked:
+		if !it.is {
+			return it.found, ErrEnded
+		}
+		return it.found, nil
+	case <-time.After(within):
+		return Snapshot{}, ErrBusy
 	}
 }
 
@@ -145,14 +173,15 @@ func (d *Database) Run(ctx context.Context) error {
 			run.warn("closing order %d: %v", run.number, fault)
 		}
 		options.Number, options.Past = run.number+1, run.Past()
+		options.Rolls.Began, options.Overrule, options.Joins = time.Now(), false, false
 		debug.FreeOSMemory() // the settings were there several times
 	}
 }
 
 // open opens an order, and makes its site.
 func (d *Database) open(options Options) (*Site, error) {
-	settings := options.Settings
-	options.Start = func(ctx context.Context) (Engine, error) { return d.Start(ctx, settings) }
+	number, settings := options.Number, options.Settings
+	options.Start = func(ctx context.Context) (Engine, error) { return d.Start(ctx, number, settings) }
 	made := New(options)
 	opened, err := d.Open(options.Number, made.database, made.Vote)
 	if err != nil {
@@ -185,6 +214,11 @@ func (d *Database) end(requests []*Request) {
 	d.waiting, d.ended = nil, true
 	d.mutex.Unlock()
 	d.changed.Broadcast()
+	stopping(requests)
+}
+
+// stopping tells requests that no site will answer them.
+func stopping(requests []*Request) {
 	for _, r := range requests {
 		r.Asker.Answer(r, Answer{Kind: Unknown, Text: IsStopping})
 		r.Asker.Flush()

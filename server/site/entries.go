@@ -10,13 +10,19 @@ import (
 )
 
 // begin is told where the order ended at the start. An empty one gets its first string.
-func (s *Site) begin(position uint64) {
+func (s *Site) begin(position uint64) error {
 	s.begun, s.beginning = true, position
 	if s.ending != nil {
 		s.beginning = s.end
 	}
 	if position == 0 {
+		if s.joins {
+			return &Stopped{fmt.Sprintf("order %d isn't there, though its settings were fetched: they are of another etcd, or of another prefix", s.number)}
+		}
 		s.beginning, s.wantsFirst = 1, true
+		if s.begins { // it may have died at the roll, and knows nothing of others
+			s.awaitOthers()
+		}
 	}
 	s.beginOrder()
 	early := s.early
@@ -24,6 +30,7 @@ func (s *Site) begin(position uint64) {
 	for _, r := range early {
 		s.admit(r)
 	}
+	return nil
 }
 
 // beginOrder puts the first string into an order that is empty.
@@ -32,6 +39,19 @@ func (s *Site) beginOrder() {
 		s.submitted = append(s.submitted, &order.String{Text: s.firstString()})
 	}
 	s.wantsFirst = false
+}
+
+// checkFirst looks at the order's first string. Whose settings are right where others began an order after the first with
+// others is what votes say.
+func (s *Site) checkFirst(text []byte) error {
+	switch {
+	case bytes.Equal(text, s.firstString()):
+	case s.number == 1:
+		return &Stopped{"the order was begun for other settings: one order has one settings file"}
+	default:
+		s.warn("order %d was begun by a server that came to other settings: votes say whose are right", s.number)
+	}
+	return nil
 }
 
 // firstString returns the string that the order begins with.
@@ -48,11 +68,10 @@ func (s *Site) count(it *order.Counted) error {
 	s.unheard.push(unheard{s.end, it.Header, it.Made, !s.begun})
 	s.database = it.Header.Database
 	for at, text := range it.Strings {
-		if s.end == 0 && !bytes.Equal(text, s.firstString()) {
-			if s.number == 1 {
-				return &Stopped{"the order was begun for other settings: one order has one settings file"}
+		if s.end == 0 {
+			if err := s.checkFirst(text); err != nil {
+				return err
 			}
-			s.warn("order %d was begun by a server that came to other settings: votes say whose are right", s.number)
 		}
 		if s.isEnd(it, at) {
 			break
@@ -64,6 +83,12 @@ func (s *Site) count(it *order.Counted) error {
 		s.backlog += len(text)
 		s.unfed.push(text)
 	}
+	s.noteBatch(it)
+	return s.hearVotes()
+}
+
+// noteBatch notes whose batch is part of the order now, and how long it took where it is this server's.
+func (s *Site) noteBatch(it *order.Counted) {
 	if len(it.Own) > 0 {
 		s.owns.push(own{it.First, it.Own})
 		for _, text := range it.Own {
@@ -74,11 +99,10 @@ func (s *Site) count(it *order.Counted) error {
 	}
 	if it.Made {
 		s.stats.batches++
-		s.lastVote, s.votedAt, s.newStrings = it.Header.Vote.Position, s.now, false
+		s.noteVote(it.Header.Vote.Position)
 	} else {
-		s.newStrings = s.newStrings || len(it.Strings) > 0
+		s.voted.newStrings = s.voted.newStrings || len(it.Strings) > 0
 	}
-	return s.hearVotes()
 }
 
 // feed hands the engine as many strings as it should have waiting.
@@ -172,6 +196,8 @@ func (s *Site) becameOwn(it wire.Entry, line []byte) error {
 		return s.becameAddition(r, it, line)
 	case *wire.Call:
 		return s.becameCall(r, it, line)
+	case *wire.Roll:
+		s.tell(r, Answer{Kind: Refused, Text: "order"}) // what it handed over has ended nothing
 	}
 	return nil
 }

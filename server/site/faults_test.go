@@ -27,21 +27,26 @@ func changing(o *Options, change func(engine int, line string) string) {
 		}
 		count++
 		number := count
-		c := &changed{Engine: started, answers: make(chan []byte)}
-		go func() {
-			defer close(c.answers)
-			for lines := range started.Answers() {
-				var all strings.Builder
-				for _, line := range strings.SplitAfter(string(lines), "\n") {
-					if line != "" {
-						all.WriteString(change(number, strings.TrimSuffix(line, "\n")) + "\n")
-					}
-				}
-				c.answers <- []byte(all.String())
-			}
-		}()
-		return c, nil
+		return changedBy(started, func(line string) string { return change(number, line) }), nil
 	}
+}
+
+// changedBy returns an engine whose lines are changed.
+func changedBy(started Engine, change func(line string) string) Engine {
+	c := &changed{Engine: started, answers: make(chan []byte)}
+	go func() {
+		defer close(c.answers)
+		for lines := range started.Answers() {
+			var all strings.Builder
+			for _, line := range strings.SplitAfter(string(lines), "\n") {
+				if line != "" {
+					all.WriteString(change(strings.TrimSuffix(line, "\n")) + "\n")
+				}
+			}
+			c.answers <- []byte(all.String())
+		}
+	}()
+	return c
 }
 
 func TestAnEngineThatEndsIsStartedAgain(t *testing.T) {

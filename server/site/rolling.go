@@ -9,6 +9,7 @@ import (
 
 	"dsmdb/server/ends"
 	"dsmdb/server/order"
+	"dsmdb/server/votes"
 	"dsmdb/server/wire"
 )
 
@@ -175,7 +176,8 @@ func (s *Site) mayCloseIdle() bool { return s.now.Sub(s.rolls.Began) >= s.rolls.
 
 // endOrder ends an order that has as many strings as one should, and closes idle sessions where the order is old enough.
 func (s *Site) endOrder() {
-	if s.rolls.At == 0 || s.origin == nil || s.ending != nil || !s.caughtUp() || s.end < s.rolls.At || s.now.Sub(s.endedAt) < endAgain {
+	wanted := s.rolls.At > 0 && s.origin != nil && s.end >= s.rolls.At && s.now.Sub(s.endedAt) >= endAgain
+	if !wanted || s.ending != nil || !s.caughtUp() || s.holdsAnswers() {
 		return
 	}
 	s.endedAt = s.now
@@ -183,28 +185,66 @@ func (s *Site) endOrder() {
 	s.submitted = append(s.submitted, &order.String{Text: how.Bytes()})
 }
 
-// tellSettings answers the settings of the order, and then their length and sum.
+// tellSettings answers the settings of the order, and then their length and sum. They may be long, and never change, so
+// another goroutine makes the lines. Where the order ends meanwhile the next one's site is asked.
 func (s *Site) tellSettings(r *Request) {
-	lines := &Spool{}
-	lines.write(s.settings)
-	if len(s.settings) > 0 && s.settings[len(s.settings)-1] != '\n' {
-		lines.write([]byte{'\n'})
-	}
-	lines.write([]byte(fmt.Sprintf("settings %d %d %x\n", s.number, len(s.settings), sha256.Sum256(s.settings))))
-	if lines.failed != nil {
+	go func() {
+		lines := &Spool{}
+		lines.write(s.settings)
+		if len(s.settings) > 0 && s.settings[len(s.settings)-1] != '\n' {
+			lines.write([]byte{'\n'})
+		}
+		lines.write([]byte(fmt.Sprintf("settings %d %d %x\n", s.number, len(s.settings), sha256.Sum256(s.settings))))
+		if !s.do(func() { s.toldSettings(r, lines) }) {
+			lines.Close()
+		}
+	}()
+}
+
+func (s *Site) toldSettings(r *Request, lines *Spool) {
+	switch {
+	case r.done.Load():
+		lines.Close()
+	case lines.failed != nil:
 		s.warn("%v", lines.failed)
 		s.tell(r, Answer{Kind: Unknown, Text: "room"})
 		lines.Close()
+	default:
+		s.tell(r, Answer{Kind: Rows, Lines: lines})
+	}
+}
+
+// Past is what a site knows that doesn't end with its order.
+type Past struct {
+	stats       stats
+	growth      growth
+	heard       votes.Heard
+	silentSince time.Time
+}
+
+// Past returns what goes on behind the order. It is called once Run has returned.
+func (s *Site) Past() *Past { return &Past{s.stats, s.growth, s.votes.Heard(), s.silentSince} }
+
+// goOnFrom takes over what the site of the order before has counted and heard. Where others disagreed with that one they
+// disagree with this one too, until they vote. All of them vote at once.
+func (s *Site) goOnFrom(past *Past) {
+	s.stats, s.growth, s.now = past.stats, past.growth, time.Now()
+	if len(past.heard) == 0 {
 		return
 	}
-	s.tell(r, Answer{Kind: Rows, Lines: lines})
+	s.votes.Begin(past.heard)
+	s.oweVote(0)
+	s.awaitOthers()
+	s.compare()
+	if s.isSilent() {
+		s.silentSince = past.silentSince
+	}
 }
 
-// Past is what a site has counted that the next order's site goes on counting.
-type Past struct {
-	stats  stats
-	growth growth
+// awaitOthers has nobody answered in an order after the first before another server has voted there: this server may have
+// come to other rows than the rest, which nobody could see before.
+func (s *Site) awaitOthers() {
+	if s.number > 1 && !s.alone {
+		s.unconfirmed = s.now
+	}
 }
-
-// Past returns what the site has counted. It is called once Run has returned.
-func (s *Site) Past() *Past { return &Past{s.stats, s.growth} }

@@ -6,6 +6,7 @@ import (
 	"math/rand"
 	"strings"
 	"sync"
+	"sync/atomic"
 	"testing"
 	"time"
 
@@ -51,16 +52,20 @@ func newOrders() *sharedOrders { return &sharedOrders{all: map[uint64]*shared{}}
 // serve runs a database over orders, and waits until it has caught up.
 func serve(t *testing.T, over *sharedOrders, name byte, change func(*Options)) *server {
 	t.Helper()
+	s := serveBy(t, over, name, change, func(uint64) {}, nil)
+	until(t, func() bool { found, _ := s.database.Snapshot(); return found.CaughtUp })
+	return s
+}
+
+// serveBy runs a database whose orders are opened behind something, and the lines of whose engines are changed where there
+// is a change.
+func serveBy(t *testing.T, over *sharedOrders, name byte, change func(*Options), opens func(uint64), lines func(string) string) *server {
+	t.Helper()
 	path := program(t)
 	s := &server{rig: rig{t: t, ended: make(chan error, 1)}, seats: map[uint64]*seat{}, kept: map[uint64]string{}}
 	options := Options{
 		Settings: []byte(endingSettings), Number: 1, Maker: batch.ID{name}, Patience: limit, Say: t.Logf, Warn: t.Logf,
-		Rolls: Rolls{Keep: time.Hour, Began: time.Now(), Save: func(number uint64, settings []byte) error {
-			s.mutex.Lock()
-			defer s.mutex.Unlock()
-			s.kept[number] = string(settings)
-			return nil
-		}},
+		Rolls: Rolls{Keep: time.Hour, Began: time.Now(), Save: s.keep},
 	}
 	if change != nil {
 		change(&options)
@@ -68,14 +73,16 @@ func serve(t *testing.T, over *sharedOrders, name byte, change func(*Options)) *
 	s.database = NewDatabase(DatabaseOptions{
 		Site: options,
 		Open: func(number uint64, _ batch.ID, vote func() batch.Vote) (order.Order, error) {
-			seat := over.of(number).sit(batch.ID{name})
-			seat.set(func() { seat.vote = vote })
-			s.mutex.Lock()
-			defer s.mutex.Unlock()
-			s.seats[number] = seat
-			return seat, nil
+			opens(number)
+			return s.sit(over.of(number), number, vote), nil
 		},
-		Start: func(ctx context.Context, settings []byte) (Engine, error) { return engine.Start(ctx, path, settings) },
+		Start: func(ctx context.Context, _ uint64, settings []byte) (Engine, error) {
+			started, err := engine.Start(ctx, path, settings)
+			if err != nil || lines == nil {
+				return started, err
+			}
+			return changedBy(started, lines), nil
+		},
 	})
 	s.rig.asked = s.database
 	ctx, stop := context.WithCancel(context.Background())
@@ -85,8 +92,25 @@ func serve(t *testing.T, over *sharedOrders, name byte, change func(*Options)) *
 		stop()
 		until(t, func() bool { _, is := s.database.Snapshot(); return !is })
 	})
-	until(t, func() bool { found, _ := s.database.Snapshot(); return found.CaughtUp })
 	return s
+}
+
+// keep keeps the settings of an order.
+func (s *server) keep(number uint64, settings []byte) error {
+	s.mutex.Lock()
+	defer s.mutex.Unlock()
+	s.kept[number] = string(settings)
+	return nil
+}
+
+// sit takes the server's seat at an order.
+func (s *server) sit(of *shared, number uint64, vote func() batch.Vote) *seat {
+	found := of.sit(s.database.Site.Maker)
+	found.set(func() { found.vote = vote })
+	s.mutex.Lock()
+	defer s.mutex.Unlock()
+	s.seats[number] = found
+	return found
 }
 
 func (s *server) at(number uint64) *seat {
@@ -316,6 +340,142 @@ func TestEnginesTakeTheNextSettings(t *testing.T) {
 	}
 	if taken < 50 {
 		t.Errorf("%d ends", taken)
+	}
+}
+
+// wrongAt changes the lines of a server's engines, once it is told to.
+func wrongAt(from *atomic.Bool, pairs ...string) func(string) string {
+	change := strings.NewReplacer(pairs...)
+	return func(line string) string {
+		if from.Load() {
+			return change.Replace(line)
+		}
+		return line
+	}
+}
+
+// thirdIsWrong runs three servers, of which the third one's engine answers otherwise once it is told to. It opens later
+// orders before the others do.
+func thirdIsWrong(t *testing.T, from *atomic.Bool, pairs ...string) (one, two, three *server) {
+	over := newOrders()
+	late := func(number uint64) {
+		if number > 1 {
+			time.Sleep(300 * time.Millisecond)
+		}
+	}
+	one, two = serveBy(t, over, 1, nil, late, nil), serveBy(t, over, 2, nil, late, nil)
+	three = serveBy(t, over, 3, nil, func(uint64) {}, wrongAt(from, pairs...))
+	one.want("session", "session 1")
+	one.committed("call add "+words_(5, 10)+" 1 1", 10)
+	return one, two, three
+}
+
+func TestAServerWithOtherRowsAnswersNobodyBehindAnEnd(t *testing.T) {
+	var from atomic.Bool
+	from.Store(true)
+	one, two, three := thirdIsWrong(t, &from, "row 1 5 0a00", "row 1 5 0b00")
+	one.want("roll 1", "rolled 2 own")
+	three.comesTo(2)
+	wrong := three.asks("rows")
+	for _, it := range []*server{one, two} {
+		it.comesTo(2)
+		if found := it.ask("rows"); !strings.HasPrefix(found, " 1                    5 0a00") {
+			t.Error(found)
+		}
+	}
+	until(t, func() bool { found, _ := three.database.Snapshot(); return found.Silent })
+	select {
+	case it := <-wrong.found:
+		t.Errorf("the server with other rows answers %v", it.Kind)
+	case <-time.After(confirmedIn + time.Second):
+	}
+}
+
+func TestASilentServerStaysSilentBehindAnEnd(t *testing.T) {
+	var from atomic.Bool
+	from.Store(true)
+	one, two, three := thirdIsWrong(t, &from, "commit reply 20", "commit reply 21", "row 1 5 1400", "row 1 5 1500")
+	one.committed("call add "+words_(5, 10)+" 1 2", 20)
+	two.want("session", "session 2")
+	one.want("session", "session 3")
+	two.want("session", "session 4")
+	until(t, func() bool { found, _ := three.database.Snapshot(); return found.Silent })
+	held := []*asker{three.asks("rows"), three.asks("call add " + words_(5, 10) + " 4 1 within 20")}
+	one.asks("roll 1")
+	three.comesTo(2)
+	one.comesTo(2)
+	one.committed("call add "+words_(5, 10)+" 1 3", 30)
+	for _, it := range held {
+		select {
+		case answer := <-it.found:
+			t.Errorf("a silent server answers %s", answer.AppendLine(nil))
+		case <-time.After(confirmedIn + time.Second):
+		}
+	}
+}
+
+func TestWhoGoesOnAloneAnswersAfterAWhile(t *testing.T) {
+	over := newOrders()
+	one, two := serve(t, over, 1, nil), serve(t, over, 2, nil)
+	one.want("session", "session 1")
+	two.committed("call add "+words_(5, 1)+" 1 1", 1)
+	two.stop()
+	until(t, func() bool { _, is := two.database.Snapshot(); return !is })
+	began := time.Now()
+	one.want("roll 1", "rolled 2 own")
+	one.committed("call add "+words_(5, 1)+" 1 2", 2)
+	if took := time.Since(began); took < confirmedIn || took > confirmedIn+2*time.Second {
+		t.Errorf("a call took %v", took)
+	}
+}
+
+func TestEachOrderHasAnAgeOfItsOwn(t *testing.T) {
+	s := serve(t, newOrders(), 1, func(o *Options) { o.Rolls.Began = time.Now().Add(-2 * time.Hour) })
+	s.want("roll 1 idle", "rolled 2 own")
+	s.comesTo(2)
+	s.want("roll 2 idle", "refused keep")
+}
+
+func TestVotesBeforeTheStartAreOverruledInTheFirstOrderAlone(t *testing.T) {
+	over, wrong := newOrders(), batch.Vote{Answers: batch.OfSettings([]byte("others"))}
+	s := serve(t, over, 1, func(o *Options) { o.Overrule = true })
+	over.of(2).insert(batch.ID{8}, wrong, order.First([]byte("others"), true))
+	over.of(2).insert(batch.ID{9}, wrong, []byte{0})
+	s.want("roll 1", "rolled 2 own")
+	s.comesTo(2)
+	until(t, func() bool { found, _ := s.database.Snapshot(); return found.Silent })
+}
+
+func TestAnOrderThatWasFetchedHasToBeThere(t *testing.T) {
+	s := serveBy(t, newOrders(), 1, func(o *Options) { o.Number, o.Joins = 2, true }, func(uint64) {}, nil)
+	s.ends("order 2 isn't there")
+}
+
+func TestWhatIsKnownWhileSettingsAreKept(t *testing.T) {
+	saving, saved := make(chan bool), make(chan bool)
+	s := serve(t, newOrders(), 1, func(o *Options) {
+		save := o.Rolls.Save
+		o.Rolls.Save = func(number uint64, text []byte) error {
+			saving <- true
+			<-saved
+			return save(number, text)
+		}
+	})
+	s.want("session", "session 1")
+	s.at(1).hold(true)
+	out := s.asks("call add " + words_(5, 10) + " 1 1")
+	until(t, func() bool { return s.at(1).isWaiting(1) })
+	s.at(1).of.insert(batch.ID{9}, atBeginning, (&ends.End{}).Bytes())
+	<-saving
+	if _, err := s.database.Look(10 * time.Millisecond); err != ErrBusy {
+		t.Error(err)
+	}
+	saved <- true
+	if found, err := s.database.Look(limit); found.Order != 2 || err != nil { // who asks waits for the next site
+		t.Errorf("order %d, %v", found.Order, err)
+	}
+	if found := s.answer(out); found != "committed 4 reply 10" {
+		t.Error(found)
 	}
 }
 

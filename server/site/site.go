@@ -25,6 +25,7 @@ const (
 	awayFor     = 2 * time.Second  // of an order that can't be reached, before the log tells of it
 	voteWithin  = 50 * time.Second // of strings that were counted since the last vote
 	endAgain    = 10 * time.Second // before an order that hasn't ended is ended once more
+	confirmedIn = 2 * time.Second  // for which who begins an order waits for another server that agrees
 )
 
 // Stopped says why a site can't go on.
@@ -60,6 +61,10 @@ type Options struct {
 	Overrule bool
 	// Rolls says how the order ends, and what is kept then.
 	Rolls Rolls
+	// Joins says that the order has been begun by others, from whom its settings are.
+	Joins bool
+	// Alone says that no other server appends to the order.
+	Alone bool
 	// Past is what the site of the order before has counted; nil for the first one since the start.
 	Past *Past
 	// Say is told of what happens, a line an event, and Warn of what an operator should look at. They never wait.
@@ -105,6 +110,9 @@ type Site struct {
 	begun      bool       // whether it is known where the order ended at the start
 	beginning  uint64     // where
 	wantsFirst bool       // whether the order is empty and its first string is still to be appended
+	joins      bool       // whether the order has to be there already
+	alone      bool       // whether no other server appends to the order
+	begins     bool       // whether the site is the first since the start
 	database   batch.ID
 	unfed      queue[[]byte]
 	unread     queue[[]byte] // strings that the engine was handed and hasn't answered
@@ -113,12 +121,11 @@ type Site struct {
 
 	votes       *votes.Votes
 	unheard     queue[unheard]
-	lastVote    uint64    // position of this server's last vote
-	votedAt     time.Time // when
-	newStrings  bool      // whether strings came since
+	voted       voted
 	silentSince time.Time // zero where votes agree
 	diverged    votes.Divergence
 	isDiverged  bool
+	unconfirmed time.Time // since when another server's vote is waited for before anybody is answered; zero for none
 	awaySince   time.Time // when it was told that the order can't be reached; zero where it can
 
 	procedures map[string]procedure
@@ -187,7 +194,7 @@ type Counts struct{ Committed, Refused, Nothing, Untrue uint64 }
 func New(o Options) *Site {
 	found := ends.Read(o.Settings)
 	s := &Site{
-		settings: o.Settings, number: o.Number, origin: found.Origin, tables: found.Tables, database: found.Of,
+		settings: o.Settings, number: o.Number, joins: o.Joins, alone: o.Alone, begins: o.Past == nil, origin: found.Origin, tables: found.Tables, database: found.Of,
 		order: o.Order, start: o.Start, patience: o.Patience, overrule: o.Overrule, rolls: o.Rolls, say: o.Say, warn: o.Warn, maker: o.Maker,
 		wake: make(chan struct{}, 1), closed: make(chan struct{}), flusher: make(chan []Asker, flushersWait),
 		votes: votes.New(o.Maker, o.Settings), procedures: proceduresOf(o.Settings), asked: committedBefore(o.Settings, found.Origin != nil),
@@ -198,7 +205,7 @@ func New(o Options) *Site {
 		s.before = found.Origin.Strings
 	}
 	if o.Past != nil {
-		s.stats, s.growth = o.Past.stats, o.Past.growth
+		s.goOnFrom(o.Past)
 	}
 	return s
 }
@@ -254,15 +261,12 @@ func (s *Site) Run(ctx context.Context) error {
 	left, tasks := s.inbox, s.tasks
 	s.inbox, s.tasks = nil, nil
 	s.mutex.Unlock()
-	if s.next != nil {
+	if err == nil && s.next != nil {
 		s.handOver(left)
 	} else {
-		s.answerAll(left)
+		s.answerAll(left, tasks)
 	}
 	s.flush()
-	for _, task := range tasks {
-		task()
-	}
 	close(s.flusher)
 	close(s.closed)
 	if s.engine != nil {
@@ -276,7 +280,7 @@ func (s *Site) run(ctx context.Context) error {
 	if err != nil {
 		return err
 	}
-	s.engine, s.heardAt, s.votedAt = started, time.Now(), time.Now()
+	s.engine, s.heardAt, s.voted.when = started, time.Now(), time.Now()
 	ticks := time.NewTicker(tick)
 	defer ticks.Stop()
 	timer := time.NewTimer(time.Hour)
@@ -290,13 +294,16 @@ func (s *Site) run(ctx context.Context) error {
 	}
 }
 
-// answerAll answers all requests, at the site's end.
-func (s *Site) answerAll(left []*Request) {
+// answerAll answers all requests, at the site's end, and does what was left to do.
+func (s *Site) answerAll(left []*Request, tasks []func()) {
 	for _, r := range left {
 		s.arrive(r)
 	}
 	for s.asking.first != nil {
 		s.tell(s.asking.first, Answer{Kind: Unknown, Text: IsStopping})
+	}
+	for _, task := range tasks {
+		task()
 	}
 }
 
@@ -386,7 +393,9 @@ func (s *Site) takeEvents(some []order.Event, is bool) error {
 		case *order.Dropped:
 			s.drop(it)
 		case order.Begun:
-			s.begin(it.Position)
+			if err := s.begin(it.Position); err != nil {
+				return err
+			}
 		case order.End:
 			s.endsAt(it)
 		}
@@ -403,11 +412,13 @@ func (s *Site) takeTick() error {
 	s.tellReach()
 	s.endOrder()
 	s.watchEngine()
+	s.payVote()
+	s.confirm()
 	if s.isDiverged && s.diverged.Silences() && s.now.Sub(s.silentSince) > silentFor {
 		return &Stopped{fmt.Sprintf("other servers came to other answers than this one from position %d on: %d disagree, %d agree",
 			s.before+s.diverged.Since, s.diverged.Disagree, s.diverged.Agree)}
 	}
-	if s.caughtUp() && s.newStrings && s.now.Sub(s.votedAt) > voteWithin {
+	if s.caughtUp() && s.voted.newStrings && s.now.Sub(s.voted.when) > voteWithin {
 		s.giveVote()
 	}
 	return nil

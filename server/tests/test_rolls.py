@@ -73,8 +73,12 @@ class Rolls(ServerTest):
                       ["fetch"]):
             self.assertEqual(self.at(server, *wrong)[0], 2, wrong)
         self.assertEqual(self.client("serve", f"{self.folder}/settings", "--data", f"{self.folder}/x", "--roll-at", "1", "--engine", "x")[0], 2)
+        self.settings(SETTINGS)  # which have no origin
+        status, lines = self.client("serve", f"{self.folder}/settings", "--data", f"{self.folder}/x", "--roll-at", "5", "--engine", fixtures.ENGINE)
+        self.assertEqual((status, lines), (2, ["dsmdb: --roll-at: the settings have no `origin`, so the order can't end: "
+                                               "docs/SITES.md says how such a database goes on"]))
         lines = {"roll": "fault L3", "roll 0": "fault L4", "roll 1 window": "fault L3", "roll 1 window 0": "fault L4", "roll 1 idle idle": "fault L4",
-                 "roll 1 later": "fault L4", "forget": "fault L3", "forget 0": "fault L4", "dump 1": "fault L3", "settings 1": "fault L3"}
+                 "roll 1 later": "fault L4", f"roll 1 about {'00' * 34_998}": "fault L4", "forget": "fault L3", "forget 0": "fault L4", "dump 1": "fault L3", "settings 1": "fault L3"}
         for line, answer in lines.items():
             self.assertEqual((line, server.ask(line)), (line, answer))
         missing = f"{self.folder}/missing/x"
@@ -169,10 +173,31 @@ class RollsOverEtcd(Rolls):
         self.assertEqual(self.at(server, "roll"), (0, ["rolled 2 own"]))
         self.assertEqual(self.at(server, "fetch", "--data", f"{self.folder}/two")[0], 0)
         alone = self.serve("two")
-        self.assertRegex(alone.ends(), "they were fetched from a server over etcd")
+        self.assertRegex(alone.ends(), "fetched from a server over etcd")
         self.assertEqual(alone.process.returncode, 2)
+        elsewhere = self.serve("two", "--etcd", f"{self.node.url}/another")
+        self.assertRegex(elsewhere.ends(), "order 2 isn't there, though its settings were fetched")
 
-    def test_a_server_that_comes_to_other_rows_ends(self):
+    def test_settings_of_another_database_are_not_fetched(self):
+        one, other = self.begin(), self.begin(name="other")
+        for it in (one, other):
+            self.assertEqual(self.at(it, "roll"), (0, ["rolled 2 own"]))
+        other.kill(signal.SIGTERM)
+        path = f"{other.data}/settings-0000000002"
+        with open(path) as file:
+            before = file.read()
+        status, lines = self.at(one, "fetch", "--data", other.data)
+        self.assertEqual(status, 1)
+        self.assertRegex(lines[0], "it is of database [0-9a-f]{32}, and the other server of database")
+        with open(path) as file:
+            self.assertEqual(file.read(), before)
+        with open(f"{self.folder}/settings", "w") as file:
+            file.write(before)
+        self.assertRegex(self.serve("one", "--etcd", f"{self.node.url}/p", "--listen", f"{self.folder}/socket2").ends(), "another server has it")
+        one.kill(signal.SIGTERM)
+        self.assertRegex(self.serve("one", "--etcd", f"{self.node.url}/p").ends(), "is of database .*: take another folder")
+
+    def test_a_server_that_comes_to_other_rows_answers_nobody(self):
         servers = [self.begin(name=it) for it in ("one", "two")]
         self.assertEqual(self.call(servers[0]), (0, ["committed 3 reply 10"]))
         wrong = self.begin(name="three")
@@ -189,4 +214,10 @@ class RollsOverEtcd(Rolls):
             file.write(text.replace(words(10), words(11)))
         self.begin(name="two")
         silent = self.serve("three", "--etcd", f"{self.node.url}/p")
-        until(lambda: re.search("divergence from position 3 on: of other servers' votes [12] disagree", silent.text()))
+        until(lambda: re.search("divergence from position 3 on: of other servers' votes [12] disagree and 0 agree", silent.text()))
+        self.assertEqual(silent.status()["state"], "silent")
+        with contextlib.closing(silent.connect()) as connection:
+            connection.socket.settimeout(1)
+            with self.assertRaises(TimeoutError):
+                connection.ask("rows")
+        self.assertRegex(self.at(silent, "forget", "2")[1][0], "refused forget other servers came to other answers")

@@ -25,13 +25,43 @@ type opinion struct {
 	position uint64
 	agrees   bool
 	since    uint64
+	isOld    bool // whether it is of the order before
 }
+
+// Heard says of each other maker whether it agreed last.
+type Heard map[batch.ID]bool
 
 // New returns the votes that a server has heard before its first string: none. Its engine has been given the settings
 // alone.
 func New(own batch.ID, settings []byte) *Votes {
 	start := pair{answers: batch.OfSettings(settings)}
 	return &Votes{own: own, digests: []pair{start}, heard: map[batch.ID]opinion{}}
+}
+
+// Heard returns what the other makers think.
+func (v *Votes) Heard() Heard {
+	found := Heard{}
+	for maker, it := range v.heard {
+		found[maker] = it.agrees
+	}
+	return found
+}
+
+// Begin begins an order with what makers thought at the end of the one before. Each counts until it votes in this one.
+func (v *Votes) Begin(before Heard) {
+	for maker, agrees := range before {
+		v.heard[maker] = opinion{agrees: agrees, isOld: true}
+	}
+}
+
+// IsConfirmed returns whether another maker has voted in this order, and agrees.
+func (v *Votes) IsConfirmed() bool {
+	for _, it := range v.heard {
+		if it.agrees && !it.isOld {
+			return true
+		}
+	}
+	return false
 }
 
 // Answered is told what the own engine has answered to the next string, without LF.

@@ -31,8 +31,14 @@ func (s *server) openDatabase(settings []byte) error {
 			return fmt.Errorf("%s: %w", s.serveOptions.layout, err)
 		}
 	}
-	if s.place, err = s.openPlace(options.Number); err != nil {
+	if err := s.checkRolls(&options); err != nil {
 		return err
+	}
+	if s.place, options.Alone, err = s.openPlace(); err != nil {
+		return err
+	}
+	if options.Joins && options.Alone {
+		return words("%s has settings of order %d that were fetched from a server over etcd, so --etcd is wanting", s.data, options.Number)
 	}
 	s.database = site.NewDatabase(site.DatabaseOptions{Site: options, Open: s.openOrder, Start: s.startEngine, Earlier: earlier})
 	return nil
@@ -58,55 +64,55 @@ func (s *server) newest(options *site.Options) ([]site.Span, error) {
 		}
 	}
 	if len(found) > 0 {
-		options.Number = found[len(found)-1]
 		spans = spans[:len(spans)-1]
-		if options.Settings, err = s.folder.Settings(options.Number); err != nil {
-			return nil, err
-		}
-		s.log.say("goes on in order %d, whose settings %s has", options.Number, s.data)
+		err = s.goOn(options, found[len(found)-1])
+	} else {
+		err = s.folder.BeginFirst()
+	}
+	if err != nil {
+		return nil, err
 	}
 	options.Rolls.Began, err = s.folder.BegunAt(options.Number)
 	return spans, err
 }
 
-// openPlace opens where the orders lie.
-func (s *server) openPlace(number uint64) (order.Place, error) {
+// goOn has a site begin with an order whose settings are kept, where those that the words name are of no other database.
+func (s *server) goOn(options *site.Options, number uint64) error {
+	kept, err := s.folder.Settings(number)
+	if err != nil {
+		return err
+	}
+	if named, own := ends.Read(options.Settings).Of, ends.Read(kept).Of; named != (batch.ID{}) && named != own {
+		return words("%s is of database %x, and %s of database %x: take another folder", s.settings, named, s.data, own)
+	}
+	options.Number, options.Settings = number, kept
+	s.log.say("goes on in order %d: its settings are in %s, and %s was for the first order", number, s.data, s.settings)
+	options.Joins, err = s.folder.WereFetched(number)
+	return err
+}
+
+// checkRolls returns why orders can't end as the words say.
+func (s *server) checkRolls(options *site.Options) error {
+	if s.rollAt > 0 && ends.Read(options.Settings).Origin == nil {
+		return words("--roll-at: the settings have no `origin`, so the order can't end: docs/SITES.md says how such a database goes on")
+	}
+	return nil
+}
+
+// openPlace opens where the orders lie; alone is whether no other server appends there.
+func (s *server) openPlace() (place order.Place, alone bool, err error) {
 	name, err := s.memberName()
 	if err != nil {
-		return nil, err
+		return nil, false, err
 	}
 	if name != "" || s.etcd.place != "" {
 		place, err := s.openEtcd(name)
 		if err != nil {
-			return nil, fmt.Errorf("the order in etcd: %w", err)
+			return nil, false, fmt.Errorf("the order in etcd: %w", err)
 		}
-		return place, nil
+		return place, false, nil
 	}
-	if fetched, err := s.wasFetched(number); err != nil {
-		return nil, fmt.Errorf("looking for the order's folder: %w", err)
-	} else if fetched {
-		return nil, words("%s has the settings of order %d, and no order: they were fetched from a server over etcd, so --etcd is wanting",
-			s.data, number)
-	}
-	return order.InFolder(s.folder), nil
-}
-
-// wasFetched returns whether the settings of an order came from another server: there is neither that order here nor the
-// one before. An order in the folder that began so would be a second one of that number.
-func (s *server) wasFetched(number uint64) (bool, error) {
-	if number == 1 {
-		return false, nil
-	}
-	if gone, err := s.folder.IsGone(number - 1); gone || err != nil {
-		return false, err
-	}
-	found, err := s.folder.OrderFolders()
-	for _, it := range found {
-		if it == number || it == number-1 {
-			return false, nil
-		}
-	}
-	return true, err
+	return order.InFolder(s.folder), true, nil
 }
 
 // openOrder opens the order of a number.
@@ -114,18 +120,21 @@ func (s *server) openOrder(number uint64, of batch.ID, vote func() batch.Vote) (
 	return s.place.Open(number, order.Maker{ID: s.folder.Maker(), Version: version, Database: of, Vote: vote})
 }
 
-func (s *server) startEngine(ctx context.Context, settings []byte) (site.Engine, error) {
+func (s *server) startEngine(ctx context.Context, number uint64, settings []byte) (site.Engine, error) {
 	started, err := engine.Start(ctx, s.engine, settings)
 	var fault *engine.SettingsFault
 	if errors.As(err, &fault) {
-		return nil, fmt.Errorf("%s: %s: `dsmdb explain %s` says what is wrong", s.settings, fault.Text, lastWord(fault.Text))
+		name := s.settings
+		if number > 1 {
+			name = fmt.Sprintf("the settings of order %d in %s", number, s.data)
+		}
+		return nil, fmt.Errorf("%s: %s: `dsmdb explain %s` says what is wrong", name, fault.Text, lastWord(fault.Text))
 	}
 	if err != nil {
 		return nil, err
 	}
 	return started, nil
 }
-
 func lastWord(text string) string {
 	fields := strings.Fields(text)
 	return fields[len(fields)-1]
@@ -152,6 +161,8 @@ func (s *server) forget(ctx context.Context, below uint64) ([]uint64, error) {
 		return nil, errors.New("the server is ending")
 	case below > found.Order:
 		return nil, fmt.Errorf("this server is at order %d, and has no settings of order %d", found.Order, below)
+	case found.Silent:
+		return nil, errors.New("other servers came to other answers than this one, who may be in the wrong")
 	case below == found.Order && found.End == found.Before:
 		return nil, fmt.Errorf("order %d has no string yet", below)
 	}

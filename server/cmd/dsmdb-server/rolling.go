@@ -7,7 +7,9 @@ import (
 	"encoding/hex"
 	"fmt"
 	"os"
+	"path/filepath"
 	"strings"
+	"time"
 
 	"dsmdb/server/client"
 	"dsmdb/server/data"
@@ -45,24 +47,17 @@ two the first counts.`,
 
 // end returns how an order is to end.
 func (r *rollOptions) end() (ends.End, error) {
-	var end ends.End
-	lines := []string{}
-	if r.window > 0 {
-		lines = append(lines, fmt.Sprintf("window %d", r.window))
-	}
+	end := ends.End{Window: r.window, Idle: r.idle}
 	for _, it := range r.tables {
-		lines = append(lines, "table "+strings.Replace(it, ":", " ", 1))
-	}
-	if r.idle {
-		lines = append(lines, "idle")
+		if !end.Read("table " + strings.Replace(it, ":", " ", 1)) {
+			return end, words("--table %s: NUMBER:WIDTH, the number 1 to 64 and the width 1 to 128 bytes, each table once", it)
+		}
 	}
 	if r.about != "" {
-		lines = append(lines, "about "+hex.EncodeToString([]byte(r.about)))
+		end.About = []string{hex.EncodeToString([]byte(r.about))}
 	}
-	for _, line := range lines {
-		if !end.Read(line) {
-			return end, words("%s: a window is 1 to 4096, a table NUMBER:WIDTH with 1 to 64 and 1 to 128, each once", line)
-		}
+	if _, is := ends.Of(end.Bytes(), nil); !is {
+		return end, words("a window is 1 to 4096, and a remark has at most some 34,000 bytes")
 	}
 	return end, nil
 }
@@ -82,16 +77,26 @@ func (o *clientOptions) roll(r *rollOptions) error {
 		return err
 	}
 	return o.with(func(ctx context.Context, c *client.Client) error {
-		_, number, err := helloOf(ctx, c)
-		if err != nil {
-			return failed(err)
-		}
-		answer, err := c.Ask(ctx, (&wire.Roll{Order: number, End: end}).String())
+		answer, err := rollPresent(ctx, c, end)
 		if err != nil {
 			return failed(err)
 		}
 		return o.told(answer, "rolled", rollCures)
 	})
+}
+
+// rollPresent ends the present order, as the server says that is asked first. Another server may not have come there yet.
+func rollPresent(ctx context.Context, c *client.Client, end ends.End) (string, error) {
+	_, number, err := helloOf(ctx, c)
+	for err == nil {
+		var answer string
+		answer, err = c.Ask(ctx, (&wire.Roll{Order: number, End: end}).String())
+		if answer != "refused order" || err != nil || ctx.Err() != nil {
+			return answer, err
+		}
+		time.Sleep(100 * time.Millisecond)
+	}
+	return "", err
 }
 
 // helloOf asks for the identity of a server's database, and for the number of its order.
@@ -216,7 +221,10 @@ func (d *dumpOutput) keep() error {
 	if err := d.file.Sync(); err != nil {
 		return fmt.Errorf("forcing the dump to the disk: %w", err)
 	}
-	return os.Rename(d.path+".new", d.path)
+	if err := os.Rename(d.path+".new", d.path); err != nil {
+		return fmt.Errorf("naming the dump's file: %w", err)
+	}
+	return data.Force(filepath.Dir(d.path))
 }
 
 // abandon removes a file that wasn't kept.
@@ -261,12 +269,36 @@ func (o *clientOptions) fetch(path string) error {
 			return err
 		}
 		defer folder.Close()
-		if err := folder.SaveSettings(number, text); err != nil {
+		if err := checkFetched(folder, number, text); err != nil {
+			return fmt.Errorf("%s: %w", path, err)
+		}
+		if err := folder.SaveFetched(number, text); err != nil {
 			return fmt.Errorf("keeping the settings: %w", err)
 		}
 		_, err = fmt.Printf("%s has the settings of order %d\n", path, number)
 		return err
 	})
+}
+
+// checkFetched returns why settings that were fetched aren't for a folder: it is of another database, or further.
+func checkFetched(folder *data.Folder, number uint64, text []byte) error {
+	kept, err := folder.KeptSettings()
+	if err != nil {
+		return err
+	}
+	for _, other := range kept {
+		head, err := folder.SettingsHead(other)
+		if err != nil {
+			return err
+		}
+		if own, found := ends.Read(head).Of, ends.Read(text).Of; own != found {
+			return fmt.Errorf("it is of database %x, and the other server of database %x", own, found)
+		}
+		if other > number {
+			return fmt.Errorf("it has the settings of order %d, and the other server is at order %d: ask one that is further", other, number)
+		}
+	}
+	return nil
 }
 
 // settingsOf asks for the settings of a server's order, and checks that they came whole.

@@ -3,6 +3,7 @@ package main
 import (
 	"context"
 	"crypto/tls"
+	"errors"
 	"fmt"
 	"net"
 	"net/http"
@@ -312,7 +313,7 @@ func (s *server) drain() {
 	s.handler.Drain()
 	until := time.Now().Add(drainFor - time.Second)
 	for time.Now().Before(until) {
-		if found, is := s.database.Snapshot(); !is || found.Waiting == 0 {
+		if found, err := s.database.Look(time.Second); errors.Is(err, site.ErrEnded) || err == nil && found.Waiting == 0 {
 			return
 		}
 		time.Sleep(20 * time.Millisecond)

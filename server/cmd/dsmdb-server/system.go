@@ -2,10 +2,13 @@ package main
 
 import (
 	"context"
+	"errors"
 	"net"
 	"os"
 	"strconv"
 	"time"
+
+	"dsmdb/server/site"
 )
 
 // notify tells systemd of a state, where it has asked for that (sd_notify(3)).
@@ -37,8 +40,8 @@ func (s *server) tellSystem(ctx context.Context) {
 			return
 		case <-ticker.C:
 		}
-		found, is := s.database.Snapshot()
-		if !is {
+		found, err := s.database.Look(time.Second)
+		if errors.Is(err, site.ErrEnded) {
 			return
 		}
 		if !ready && found.CaughtUp {
