@@ -52,17 +52,6 @@ type Answer struct {
 	Lines *Spool // of Rows; its receiver closes it
 }
 
-// IsFinal returns whether a call that was asked `fresh` is settled by the answer: nothing will come of it any more.
-func (a *Answer) IsFinal() bool {
-	switch a.Kind {
-	case Committed, Read, Cancelled, Conflict, Stale, Other:
-		return true
-	case Refused:
-		return a.Text == "P2" || a.Text == "P3" || a.Text == "P13" || a.Text == "P15"
-	}
-	return false
-}
-
 // restsOnRows returns whether an answer may be wrong where a server has come to other rows than others.
 func (k Kind) restsOnRows() bool { return k != Text && k != Unknown && k != Rolled }
 

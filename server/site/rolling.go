@@ -4,7 +4,6 @@ import (
 	"bytes"
 	"crypto/sha256"
 	"fmt"
-	"io"
 	"time"
 
 	"dsmdb/server/ends"
@@ -107,17 +106,6 @@ func (s *Site) dumped(last []byte) error {
 	s.rolls.step(StepSaved)
 	s.next = next
 	return nil
-}
-
-// whole returns all lines.
-func (s *Spool) whole() ([]byte, error) {
-	reader, err := s.Reader()
-	if err != nil {
-		return nil, err
-	}
-	text := make([]byte, s.size)
-	_, err = io.ReadFull(reader, text)
-	return text, err
 }
 
 // Next returns the settings of the next order, and the requests that its site is to answer; nil where the order hasn't

@@ -77,6 +77,17 @@ func (s *Spool) Reader() (io.Reader, error) {
 	return s.file, nil
 }
 
+// whole returns all lines.
+func (s *Spool) whole() ([]byte, error) {
+	reader, err := s.Reader()
+	if err != nil {
+		return nil, err
+	}
+	text := make([]byte, s.size)
+	_, err = io.ReadFull(reader, text)
+	return text, err
+}
+
 // Close gives the lines up.
 func (s *Spool) Close() error {
 	s.few = nil

@@ -217,6 +217,11 @@ func (o *clientOptions) call(name string, given []string) error {
 	} else {
 		answer, err = c.Call(ctx, name, args, client.When{After: o.after, Fresh: o.fresh})
 	}
+	return handOn(c, known, answer, err)
+}
+
+// handOn prints what a call was answered, and has the client's file forget the call, where it is settled.
+func handOn(c *client.Client, known *lateLayout, answer client.Answer, err error) error {
 	if answer.Line != "" {
 		if _, fault := fmt.Println(known.said(answer)); fault != nil {
 			return unsaid(c, fault)

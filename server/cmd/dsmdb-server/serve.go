@@ -131,6 +131,11 @@ func (o *serveOptions) check() error {
 	if err := o.etcd.check(); err != nil {
 		return err
 	}
+	return o.checkPlaces()
+}
+
+// checkPlaces returns what is wrong with the places at which clients are to be answered.
+func (o *serveOptions) checkPlaces() error {
 	for _, it := range o.listen {
 		if strings.HasPrefix(it, "tls://") && o.cert == "" {
 			return words("%s asks for --cert and --key", it)
