@@ -5,6 +5,7 @@ use Rattle.std.proofs.lemmas.Option.{slice_get_past}
 use Rattle.bpf_verify.specs.Refusal.{Cause}
 use Rattle.bpf_code.specs.declared.instruction.Instruction.{Instruction}
 use Rattle.bpf_code.specs.Program.{Program, instruction_at}
+use Rattle.bpf_verify.specs.declared.refusal.Refusal.{Refusal}
 use Rattle.bpf_verify.specs.declared.refusal.Refusal.TheVariants.{At}
 use Rattle.bpf_verify.specs.Flow.{Procedure, cause_if, state_at, cause_at, IsAccepted, IsRefused}
 use Rattle.script.specs.declared.cause.FaultCause.TheVariants.{Refused}
@@ -47,3 +48,30 @@ verified_accepted p accepted = ap (unless_refused p) (refusal_of-accepted p acce
 
 pub verified_refused : (p : Procedure) (slot : ℕ) (cause : Cause) → IsRefused p slot cause → verified p ≡ Err (Refused (At slot cause))
 verified_refused p slot cause refused = ap (unless_refused p) (refusal_of-refused p slot cause refused)
+
+-- where no slot is refused, none of these has a cause
+none_from : (p : Procedure) (from n slot : ℕ) → refusal_from p from n ≡ None → from ≤ slot → slot < from + n → cause_at p slot ≡ None
+unfolding refusal_from
+none_from p from zero slot e low high = absurd (omega arith)
+none_from p from (suc n) slot e low high = by_cause (λ rest behind. none_from p (suc from) n slot rest (omega (arith, behind)) (omega arith)) (cause_at p from) refl e
+  where
+    by_cause : (refusal_from p (suc from) n ≡ None → from < slot → cause_at p slot ≡ None) → (c : Option Cause) → cause_at p from ≡ c → at_slot_or from c (refusal_from p (suc from) n) ≡ None → cause_at p slot ≡ None
+    by_cause rest (Some cause) is later = absurd cc
+    by_cause rest None is later = elim (cases_lt from slot) [
+      | inl l ↦ rest later l
+      | inr l ↦ let same : from ≡ slot = omega (arith, l) in ap (cause_at p) (sym same) ∙ is
+    ]
+
+-- what is verified is the procedure itself, and is accepted
+pub accepted_where_verified : (p q : Procedure) → verified p ≡ Ok q → (q ≡ p) × IsAccepted p
+accepted_where_verified p q = by_refusal (refusal_of p) refl
+  where
+    by_refusal : (r : Option Refusal) → refusal_of p ≡ r → unless_refused p r ≡ Ok q → (q ≡ p) × IsAccepted p
+    by_refusal (Some refusal) is e = absurd cc
+    by_refusal None is e = (
+      let same : p ≡ q = cc in sym same,
+      λ slot. elim (cases_lt slot (length p.program)) [
+        | inl l ↦ none_from p 0 (length p.program) slot is (omega arith) (omega (arith, l))
+        | inr l ↦ no_cause p slot (omega (arith, l))
+      ],
+    )

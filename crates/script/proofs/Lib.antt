@@ -1,8 +1,8 @@
 mod FieldLemmas
 pub mod LineLemmas
-mod NumberLemmas
+pub mod NumberLemmas
 mod SayingLemmas
-mod AcceptanceLemmas
-mod TableLemmas
+pub mod AcceptanceLemmas
+pub mod TableLemmas
 pub mod SaidLemmas
 pub mod TellingLemmas

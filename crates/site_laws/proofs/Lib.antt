@@ -3,16 +3,16 @@ mod SettledLemmas
 mod RefusedLemmas
 mod OwnLemmas
 pub mod SessionLemmas
-mod DecodingLemmas
+pub mod DecodingLemmas
 pub mod OutcomeLemmas
-mod OrderFitLemmas
+pub mod OrderFitLemmas
 mod ProcedureLemmas
 mod SerialLemmas
 mod NothingLemmas
 mod NameLemmas
-mod GrowingLemmas
+pub mod GrowingLemmas
 pub mod FinalLemmas
 mod FreeLemmas
-mod AskedLemmas
+pub mod AskedLemmas
 mod AgreementLemmas
-mod SpelledLemmas
+pub mod SpelledLemmas

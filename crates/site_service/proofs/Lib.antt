@@ -5,3 +5,9 @@ mod ScanLemmas
 mod ReadingLemmas
 mod AnswerLemmas
 mod DumpLemmas
+mod FieldLemmas
+mod PrintedLemmas
+mod RisingLemmas
+mod LeadLemmas
+mod Told
+mod BackLemmas
