@@ -11,3 +11,11 @@ mod RisingLemmas
 mod LeadLemmas
 mod Told
 mod BackLemmas
+mod FieldLemmas
+mod PrintedLemmas
+mod RisingLemmas
+mod LeadLemmas
+mod Told
+mod BackLemmas
+mod SayLemmas
+mod SaidLemmas
