@@ -1,2 +1,2 @@
-mod RequestLemmas
+pub mod RequestLemmas
 mod NextLemmas

@@ -19,3 +19,14 @@ mod Told
 mod BackLemmas
 mod SayLemmas
 mod SaidLemmas
+mod FieldLemmas
+mod PrintedLemmas
+mod RisingLemmas
+mod LeadLemmas
+mod Told
+mod BackLemmas
+mod SayLemmas
+mod SaidLemmas
+mod NamedLemmas
+mod LastLemmas
+mod NextLemmas

@@ -126,15 +126,21 @@ row_fits table key row x e =
     let most = (number_fits 0 18446744073709551615 key k is_key).1 in
     subst FitsSetting (sym same) (omega arith, bytes_fit row bytes is_row)
 
-procedure_fits : (name number args_len program : List ℕ) (x : ScriptSetting)
-    → made_of Procedure (three (λ n len bytes. record { name = name; number = n; args_len = len; program = bytes }) (u16_of number) (number_of 0 MAX_ARGUMENTS args_len) (bytes_of_hex program)) ≡ Ok x → FitsSetting x
+abbrev make_procedure : List ℕ → ℕ → ℕ → List ℕ → ProcedureFields (List ℕ)
+make_procedure name n len bytes = record { name = name; number = n; args_len = len; program = bytes }
+
+fields_of_procedure_fit : (name number args_len program : List ℕ) (a b : Option ℕ) (o : Option (List ℕ)) → u16_of number ≡ a → number_of 0 MAX_ARGUMENTS args_len ≡ b → bytes_of_hex program ≡ o
+    → (p : ProcedureFields (List ℕ)) → three (make_procedure name) a b o ≡ Ok p → FitsSetting (Procedure p)
+fields_of_procedure_fit name number args_len program (Some n) (Some len) (Some bytes) ea eb eo p e =
+    let same : make_procedure name n len bytes ≡ p = cc in
+    let most = (number_fits 0 65535 number n ea).1 in
+    subst (λ (q : ProcedureFields (List ℕ)). FitsSetting (Procedure q)) same (omega arith, (number_fits 0 MAX_ARGUMENTS args_len len eb).1, bytes_fit program bytes eo)
+fields_of_procedure_fit name number args_len program _ _ _ ea eb eo p e = absurd cc
+
+procedure_fits : (name number args_len program : List ℕ) (x : ScriptSetting) → made_of Procedure (three (make_procedure name) (u16_of number) (number_of 0 MAX_ARGUMENTS args_len) (bytes_of_hex program)) ≡ Ok x → FitsSetting x
 procedure_fits name number args_len program x e =
-    let make : ℕ → ℕ → List ℕ → ProcedureFields (List ℕ) = λ n len bytes. record { name = name; number = n; args_len = len; program = bytes } in
-    let (p, made, same) = made_from Procedure (three make (u16_of number) (number_of 0 MAX_ARGUMENTS args_len) (bytes_of_hex program)) x e in
-    let (n, len, bytes, is_number, is_len, is_program, is) = three_from make (u16_of number) (number_of 0 MAX_ARGUMENTS args_len) (bytes_of_hex program) p made in
-    let most = (number_fits 0 65535 number n is_number).1 in
-    subst FitsSetting (sym same)
-    (subst (λ (q : ProcedureFields (List ℕ)). FitsSetting (Procedure q)) (sym is) (omega arith, (number_fits 0 MAX_ARGUMENTS args_len len is_len).1, bytes_fit program bytes is_program))
+    let (p, made, same) = made_from Procedure (three (make_procedure name) (u16_of number) (number_of 0 MAX_ARGUMENTS args_len) (bytes_of_hex program)) x e in
+    subst FitsSetting (sym same) (fields_of_procedure_fit name number args_len program (u16_of number) (number_of 0 MAX_ARGUMENTS args_len) (bytes_of_hex program) refl refl refl p made)
 
 abbrev make_request : ℕ → ℕ → ℕ → ℕ → List ℕ → RequestFields (List ℕ)
 make_request s q v n bytes = record { session = s; sequence = q; reply = v; procedure = n; args = bytes }
