@@ -36,7 +36,7 @@ use Rattle.script.specs.declared.statements.Statement.TheVariants as statement
 use Rattle.script.specs.declared.statements.Setting.TheVariants.{Window, Table, Procedure, Row, Request, Origin}
 use Rattle.script.specs.Script.{ScriptSetting}
 use Rattle.script.specs.Settings.{caused, only_tables, program_for, setting_after, stored, then_with, unless_fault, unless_row_fault, verified, with_procedure}
-use Rattle.site_service.proofs.AcceptanceLemmas.{verified_accepted}
+use Rattle.script.proofs.AcceptanceLemmas.{verified_accepted}
 use Rattle.site_model.specs.declared.origin.Origin.{Origin as OrderOrigin}
 use Rattle.site_model.specs.Standing.{SiteSetting}
 use Rattle.site_laws.proofs.DecodingLemmas.{whole_length}

@@ -16,7 +16,7 @@ use Rattle.std.proofs.lemmas.Slice.Eq.{bytes_eq-Decides}
 use Rattle.hex.specs.Hex.{decode_of, encode_lower, encode_with, lower_digits, IsBytes as AreHexBytes}
 use Rattle.hex.proofs.HexLemmas.{decode_of-encode_lower, length-encode_with}
 use Rattle.log_model.specs.Name.{is_name, is_name_byte}
-use Rattle.script.specs.Text.{bytes_of_hex, number_of}
+use Rattle.script.specs.Text.{bytes_of_hex}
 use Rattle.site_report.specs.SettingsText.{hex_field}
 
 -- ---- bytes of fields
@@ -73,17 +73,6 @@ short_name name e =
     leb-true (length name) 32 (and_parts (nat_le 1 (length name)) (nat_le (length name) 32) parts.0).1
 
 -- ---- fields that are read back
-
-picked : (test : Bool) (n : ℕ) → test ≡ true → (if test then Some n else None) ≡ Some n
-picked true n e = refl
-picked false n e = absurd cc
-
-pub number_again : (least most n : ℕ) → n < 2 ^ 64 → least ≤ n → n ≤ most → number_of least most (decimal n) ≡ Some n
-unfolding number_of
-number_again least most n small low high =
-    let v : digits_value 10 (decimal n) ≡ n = (decimal_is_IsNumeral n small).1 in
-    subst (λ (k : ℕ). (if bytes_eq (decimal n) (decimal k) && (nat_le least k && nat_le k most) then Some k else None) ≡ Some n) (sym v)
-    (picked (bytes_eq (decimal n) (decimal n) && (nat_le least n && nat_le n most)) n (and_from _ _ ((bytes_eq-Decides (decimal n) (decimal n)).1 refl) (and_from _ _ (le-leb least n low) (le-leb n most high))))
 
 pub short_number : (n : ℕ) → n < 2 ^ 64 → length (decimal n) ≤ 20
 short_number n small = length-decimal-le 20 n (omega arith) (omega arith) small

@@ -24,7 +24,7 @@ use Rattle.script.specs.declared.word.Word.TheVariants as word
 use Rattle.script.specs.declared.word.SettingWord.{SettingWord}
 use Rattle.script.specs.declared.word.SettingWord.TheVariants as setting
 use Rattle.script.specs.Line.{few_bytes, fields_say, five, made_of, one, said_by_fields, said_by_word, says, three, two}
-use Rattle.script.specs.Text.{bytes_of_hex, fields_of, is_printable, is_readable, is_skipped, max_line}
+use Rattle.script.specs.Text.{bytes_of_hex, fields_of, is_printable, is_readable, is_skipped, max_line, number_of}
 use Rattle.script.specs.Script.{ScriptSetting, setting_said}
 use Rattle.site_model.specs.declared.origin.Origin.{Origin as OrderOrigin}
 use Rattle.site_report.specs.SettingsText.{additions_line, hex_field, next_number, origin_line, procedure_line, request_line, row_setting_line, table_line, window_line}
@@ -32,7 +32,8 @@ use Rattle.site_service.specs.declared.settings_line.SettingsWord.{SettingsWord}
 use Rattle.site_service.specs.declared.settings_line.SettingsWord.TheVariants as kind
 use Rattle.site_service.specs.declared.settings_line.SettingsLine.TheVariants.{Additions, Statement}
 use Rattle.site_service.specs.Settings.{SettingsRequest, line_says, said_behind, word_of}
-use Rattle.site_service.proofs.FieldLemmas.{AreClear, IsClear, clear_field, clear_name, clear_number, clear_word, field_again, length-hex_field, number_again, short_name, short_number}
+use Rattle.script.proofs.NumberLemmas.{number_of-some}
+use Rattle.site_service.proofs.FieldLemmas.{AreClear, IsClear, clear_field, clear_name, clear_number, clear_word, field_again, length-hex_field, short_name, short_number}
 
 -- ---- fields, joined by spaces
 
@@ -126,6 +127,9 @@ setting_line line first fields most w x is few named said =
     says_of (fields_say word_of said_behind) line (first ∷ fields) most is few
     ∙ ap (λ (o : Option SettingsWord). made_of Some (said_by_word said_behind o fields)) named
     ∙ ap (λ (r : Result ScriptSetting LineFault). made_of Some (made_of Statement (made_of statement.Setting r))) said
+
+number_again : (least most n : ℕ) → n < 2 ^ 64 → least ≤ n → n ≤ most → number_of least most (decimal n) ≡ Some n
+number_again least most n small low high = number_of-some least most n (decimal n) small refl low high
 
 -- ---- each line of settings
 

@@ -36,8 +36,8 @@ use Rattle.script.specs.Script.{ScriptSetting}
 use Rattle.script.specs.Settings.{ScriptSettings, caused, done_of, has_only_tables, once, only_tables, program_for, setting_after, stored, then_with, unless_fault, unless_row_fault, verified, with_procedure, with_request, with_row}
 use Rattle.script.specs.Settings as script
 use Rattle.script.specs.Text.{lines_of}
-use Rattle.site_service.proofs.AcceptanceLemmas.{accepted_where_verified}
-use Rattle.site_service.proofs.TableLemmas.{schema_of-append}
+use Rattle.script.proofs.AcceptanceLemmas.{accepted_where_verified}
+use Rattle.script.proofs.TableLemmas.{schema_of-append}
 use Rattle.site_model.specs.declared.origin.Origin.{Origin as OrderOrigin}
 use Rattle.site_model.specs.Standing.{SiteSetting}
 use Rattle.site_laws.proofs.DecodingLemmas.{decoded_is_program}

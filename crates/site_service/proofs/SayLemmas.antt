@@ -46,7 +46,7 @@ number_fits least most field n = by_test (digits_value 10 field) (bytes_eq field
         let high = leb-true k most within.1 in
         (omega arith, omega arith)
 
-bytes_fit : (field bytes : List ℕ) → bytes_of_hex field ≡ Some bytes → All (λ b. b < 256) bytes
+pub bytes_fit : (field bytes : List ℕ) → bytes_of_hex field ≡ Some bytes → All (λ b. b < 256) bytes
 unfolding bytes_of_hex
 bytes_fit field bytes = by_tests (bytes_eq field (codes "-")) (length field == 0)
   where
@@ -71,11 +71,11 @@ few_fit (Some read) bytes e = by_test (nat_le (length read) MAX_ARGUMENTS) refl 
 
 -- ---- what is made of fields
 
-made_from : {X Y : Type 0} (make : X → Y) (r : Result X LineFault) (y : Y) → made_of make r ≡ Ok y → (x : X) × (r ≡ Ok x) × (y ≡ make x)
+pub made_from : {X Y : Type 0} (make : X → Y) (r : Result X LineFault) (y : Y) → made_of make r ≡ Ok y → (x : X) × (r ≡ Ok x) × (y ≡ make x)
 made_from make (Err fault) y e = absurd cc
 made_from make (Ok x) y e = (x, refl, let same : make x ≡ y = cc in sym same)
 
-one_from : {X R : Type 0} (make : X → R) (o : Option X) (r : R) → one make o ≡ Ok r → (x : X) × (o ≡ Some x) × (r ≡ make x)
+pub one_from : {X R : Type 0} (make : X → R) (o : Option X) (r : R) → one make o ≡ Ok r → (x : X) × (o ≡ Some x) × (r ≡ make x)
 one_from make None r e = absurd cc
 one_from make (Some x) r e = (x, refl, let same : make x ≡ r = cc in sym same)
 
@@ -84,7 +84,7 @@ two_from make None p r e = absurd cc
 two_from make (Some x) None r e = absurd cc
 two_from make (Some x) (Some y) r e = (x, y, refl, refl, let same : make x y ≡ r = cc in sym same)
 
-three_from : {X Y Z R : Type 0} (make : X → Y → Z → R) (o : Option X) (p : Option Y) (q : Option Z) (r : R) → three make o p q ≡ Ok r → (x : X) × (y : Y) × (z : Z) × (o ≡ Some x) × (p ≡ Some y) × (q ≡ Some z) × (r ≡ make x y z)
+pub three_from : {X Y Z R : Type 0} (make : X → Y → Z → R) (o : Option X) (p : Option Y) (q : Option Z) (r : R) → three make o p q ≡ Ok r → (x : X) × (y : Y) × (z : Z) × (o ≡ Some x) × (p ≡ Some y) × (q ≡ Some z) × (r ≡ make x y z)
 three_from make None p q r e = absurd cc
 three_from make (Some x) None q r e = absurd cc
 three_from make (Some x) (Some y) None r e = absurd cc

@@ -6,3 +6,4 @@ pub mod InputLines
 pub mod Settings
 pub mod Reading
 pub mod LineAnswers
+pub mod Taken

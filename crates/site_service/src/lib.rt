@@ -2,6 +2,7 @@
 #![tactic(auto)]
 
 pub use entry::MAX_POSITION;
+pub use laws::settings_are_read_back;
 pub use line::{Scan, SiteLine, site_line};
 pub use lines::answer_lines;
 pub use service::site_over;
@@ -11,6 +12,7 @@ mod answer_line;
 mod answer_scan;
 mod entry;
 mod input;
+mod laws;
 mod line;
 mod lines;
 mod reading;
