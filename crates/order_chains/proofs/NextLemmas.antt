@@ -22,48 +22,19 @@ use Rattle.site_model.specs.Standing.{SiteSetting}
 use Rattle.site_model.specs.Order.{Order, outcome_behind, sessions_after}
 use Rattle.site_model.specs.Next.{origin_behind, requests_of}
 use Rattle.site_laws.proofs.FinalLemmas.{heads_are_whole}
+use Rattle.site_laws.proofs.RisingLemmas.{each_is_found}
 use Rattle.site_laws.proofs.SessionLemmas.{SessionsGoOn, kept_along, session_cases}
 use Rattle.order_chains.specs.GoingOn.{first_lasts}
 use Rattle.order_chains.proofs.RequestLemmas.{last_cases}
 
 -- ---- each entry of a map is found
 
-less_of : (a b : ℕ) → T (is_lt (nat_cmp a b)) → a < b
-less_of a b = by_order (nat_cmp a b) (ranks a b)
-  where
-    by_order : (o : Ordering) → MatchOrdering o (a < b) (a ≡ b) (b < a) → T (is_lt o) → a < b
-    by_order Less is h = is
-    by_order Equal is h = absurd h
-    by_order Greater is h = absurd h
-
-module _ {X : Type 0} where
-  past_first : (e d : ℕ × X) (es : List (ℕ × X)) → T (is_lt (nat_cmp e.0 d.0)) → find nat_cmp d.0 (e ∷ es) ≡ find nat_cmp d.0 es
-  past_first e d es less =
-      let below = less_of e.0 d.0 less in
-      let apart : (d.0 == e.0) ≡ false = grind (arith, nat_tests) in
-      ap (λ (b : Bool). cond b (Some e.1) (find nat_cmp d.0 es)) (unsigned_tied d.0 e.0 ∙ apart)
-
-  all_past : (e : ℕ × X) (ds es : List (ℕ × X)) → T (below_all nat_cmp e.0 ds) → AllByRecursion (λ d. find nat_cmp d.0 es ≡ Some d.1) ds → AllByRecursion (λ d. find nat_cmp d.0 (e ∷ es) ≡ Some d.1) ds
-  all_past e [] es h found = tt
-  all_past e (d ∷ ds) es h found = (past_first e d es (first _ _ h) ∙ found.0, all_past e ds es (second _ _ h) found.1)
-
-  found_all : (es : List (ℕ × X)) → T (is_sorted nat_cmp es) → AllByRecursion (λ d. find nat_cmp d.0 es ≡ Some d.1) es
-  found_all [] h = tt
-  found_all (e ∷ es) h = (
-    ap (λ (o : Ordering). cond (is_eq o) (Some e.1) (find nat_cmp e.0 es)) (tied_itself nat_cmp_total e.0),
-    all_past e es es (first _ _ h) (found_all es (second _ _ h)),
-  )
-
 HasEach : LastRequests → List (ℕ × DoneRequest) → Type 0
 HasEach lasts es = AllByRecursion (λ e. get lasts e.0 ≡ Some e.1) es
 
 has_each : (lasts : LastRequests) → HasEach lasts (entries lasts)
 unfolding HasEach
-has_each lasts = all (entries lasts) (found_all (entries lasts) (entries_sorted lasts))
-  where
-    all : (es : List (ℕ × DoneRequest)) → AllByRecursion (λ d. find nat_cmp d.0 (entries lasts) ≡ Some d.1) es → AllByRecursion (λ e. get lasts e.0 ≡ Some e.1) es
-    all [] found = tt
-    all (e ∷ es) found = (get-entries lasts e.0 ∙ found.0, all es found.1)
+has_each lasts = each_is_found nat_cmp nat_cmp_total lasts
 
 -- ---- last requests are as settings tell them
 

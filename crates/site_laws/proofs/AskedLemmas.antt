@@ -1,56 +1,21 @@
 -- A call that was submitted fits its fields, over the settings that sites have.
-use Rattle.std.proofs.Common.{◌≡◌, ℕ, ◌+◌, ◌^◌, ◌==◌, ◌<◌, Bool, true, false, not, ◌&&◌, cond, nat_le, List, [], ◌∷◌, ◌++◌, length, All, Option, Some, None, refl, sym, subst, arith, append_assoc, append-nil}
+use Rattle.std.proofs.Common.{◌≡◌, ℕ, ◌^◌, ◌<◌, true, false, cond, List, [], ◌∷◌, ◌++◌, All, Option, Some, None, refl, sym, subst, arith, append_assoc, append-nil}
 use Rattle.std.specs.Str.{bytes_eq}
-use Rattle.std.proofs.lemmas.List.Elements.{All-head, All-push, All-tail, All-take}
-use Rattle.byteorder.specs.Endian.{little_from}
+use Rattle.std.proofs.lemmas.List.Elements.{All-head, All-push, All-tail}
 use Rattle.bpf_code.specs.Program.{Program, IsProgram}
 use Rattle.schema.specs.Schema.{Tables}
 use Rattle.schema.specs.Rows.{Rows, AreRows}
 use Rattle.bpf_semantics.specs.Fit.{IsRunOf}
 use Rattle.bpf_semantics.specs.Run.{Run, run}
 use Rattle.log_model.specs.Log.{StoredProcedure, Catalogue, Call, by_name, by_number, or_idle, run_of_call, run_of_procedure}
-use Rattle.log_model.specs.OpenRequest.{has_zero}
-use Rattle.log_entry.specs.Head.{AdditionHead, CallHead, NamedProcedure, addition_head, call_head, call_of, field, head_of, part, procedure_of, request_of}
 use Rattle.site_model.specs.Standing.{SiteSetting}
 use Rattle.site_model.specs.Order.{Order}
 use Rattle.site_laws.specs.Added.{AddsProcedure}
 use Rattle.site_laws.specs.Orders.{FitsFields, IsBytes, IsOfBytes, procedures_behind}
 use Rattle.site_laws.proofs.DecodingLemmas.{decoded_is_program}
+use Rattle.site_laws.proofs.HeadFitLemmas.{named_procedure_fits}
 use Rattle.site_laws.proofs.GrowingLemmas.{Added, Others, Told, by_next}
 use Rattle.site_laws.proofs.OrderFitLemmas.{ChecksPass}
-use Rattle.site_laws.proofs.SpelledLemmas.{index_byte}
-
--- ---- numbers of bytes
-
-two_bytes : (xs : List ℕ) → IsBytes xs → little_from 0 2 xs < 2 ^ 16
-two_bytes xs are =
-    let low = index_byte xs 0 are in
-    let high = index_byte xs 1 are in
-    omega arith
-
--- the number of a procedure that some bytes name
-named_number : (bytes : List ℕ) (n : NamedProcedure) → IsBytes bytes → head_of bytes ≡ Some (AdditionHead n) → n.number < 2 ^ 16
-unfolding head_of
-named_number [] n are e = absurd cc
-named_number (kind ∷ fields) n are e = by_kind (kind == 1) (kind == 2) e
-  where
-    rest : IsBytes fields
-    rest = All-tail (λ b. b < 256) kind fields are
-
-    by_call : (b : Bool) (c : Call) (r : ℕ) → cond b (Some (CallHead c r)) None ≡ Some (AdditionHead n) → n.number < 2 ^ 16
-    by_call true c r e = absurd cc
-    by_call false c r e = absurd cc
-
-    by_addition : (b : Bool) (p : NamedProcedure) → p.number < 2 ^ 16 → cond b (Some (AdditionHead p)) None ≡ Some (AdditionHead n) → n.number < 2 ^ 16
-    by_addition true p fits e = subst (λ (x : NamedProcedure). x.number < 2 ^ 16) (let same : p ≡ n = cc in same) fits
-    by_addition false p fits e = absurd cc
-
-    by_kind : (a b : Bool) → cond a (call_head (field 14 2 fields) fields) (cond b (addition_head (field 4 1 fields) (field (5 + field 4 1 fields) 4 fields) fields) None) ≡ Some (AdditionHead n) → n.number < 2 ^ 16
-    by_kind true b e = by_call (nat_le (28 + field 14 2 fields) (length fields) && not (has_zero (request_of fields))) (call_of (field 14 2 fields) fields) (field (20 + field 14 2 fields) 8 fields) e
-    by_kind false true e =
-        by_addition (9 + field 4 1 fields + field (5 + field 4 1 fields) 4 fields == length fields) (procedure_of (field 4 1 fields) (field (5 + field 4 1 fields) 4 fields) fields)
-        (two_bytes (part 0 2 fields) (All-take (λ b. b < 256) 2 fields rest)) e
-    by_kind false false e = absurd cc
 
 -- ---- the procedures behind an order fit
 
@@ -60,7 +25,7 @@ added_fits s order bytes p passed are adds =
     let n = names.named in
     let decoded = ((passed s.setting.tables n.args_len n.bytes names.program).0 names.accepted).0 in
     subst FitsFields (sym names.is) (record {
-      number = named_number bytes n are names.head;
+      number = (named_procedure_fits bytes n are names.head).number;
       arguments = names.arguments;
       program = decoded_is_program n.bytes names.program decoded;
     })

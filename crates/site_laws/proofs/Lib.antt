@@ -16,3 +16,5 @@ mod FreeLemmas
 pub mod AskedLemmas
 mod AgreementLemmas
 pub mod SpelledLemmas
+pub mod HeadFitLemmas
+pub mod RisingLemmas

@@ -1,27 +1,24 @@
 -- Settings are read back from their lines.
-use Rattle.std.proofs.Common.{◌≡◌, ◌≢◌, ℕ, ◌+◌, ◌*◌, ◌-◌, ◌≤◌, ◌<◌, ◌^◌, ◌==◌, nat_le, Bool, true, false, not, cond, ◌&&◌, ◌||◌, is_some, List, [], ◌∷◌, ◌++◌, length, map, All, Option, Some, None, Result, Ok, Err, refl, sym, ap, subst, ◌∙◌, arith, append_assoc, append-nil}
+use Rattle.std.proofs.Common.{◌≡◌, ℕ, ◌≤◌, ◌==◌, nat_le, Bool, true, false, not, ◌&&◌, is_some, List, [], ◌∷◌, ◌++◌, length, map, Option, Some, None, Result, Ok, Err, refl, sym, ap, subst, ◌∙◌, arith, append_assoc, append-nil}
 use Rattle.std.specs.Prelude.{T, if◌then◌else◌}
 use Rattle.std.specs.List.{AllByRecursion, concat, list_all}
 use Rattle.std.specs.Option.{option_or}
 use Rattle.std.proofs.lemmas.Bool.Decides.{nat_tests}
 use Rattle.std.specs.Ordering.{is_lt}
 use Rattle.std.specs.FinMap.{empty, entries, entries_sorted, get, insert, is_sorted, len-empty, len-entries, same_entries_map}
-use Rattle.std.specs.Ordering.{nat_cmp}
 use Rattle.std.proofs.lemmas.Bool.{and_parts, leb-true}
 use Rattle.schema.specs.declared.fault.SchemaFault.{SchemaFault}
 use Rattle.schema.specs.declared.fault.SchemaFault.TheVariants.{TableNumber, Width, RepeatedTable}
-use Rattle.schema.specs.declared.limits.TheConstants.{MAX_ARGUMENTS, MAX_TABLE, MAX_WIDTH, MAX_WINDOW}
+use Rattle.schema.specs.declared.limits.TheConstants.{MAX_TABLE, MAX_WIDTH}
 use Rattle.schema.specs.Rows.{AreRows, IsRow, Key, Rows, is_behind, key_cmp, key_cmp_total}
-use Rattle.schema.specs.Schema.{AreTables, Tables, fault_of, fault_or, schema_of, tables_eq, with_pairs}
+use Rattle.schema.specs.Schema.{AreTables, Tables, fault_of, fault_or, with_pairs}
 use Rattle.schema.proofs.EqualLemmas.{same_schema}
 use Rattle.schema.proofs.SchemaLemmas.{no_tables, tables_added}
-use Rattle.bpf_code.specs.Program.{Program, max_slots}
+use Rattle.bpf_code.specs.Program.{Program}
 use Rattle.bpf_bytes.specs.declared.fault.DecodeFault.{DecodeFault}
-use Rattle.bpf_bytes.specs.Decoding.{program_of}
 use Rattle.bpf_bytes.specs.Spelling.{spelling}
 use Rattle.bpf_verify.specs.Flow.{Procedure as Accepted}
-use Rattle.log_model.specs.Log.{Catalogue, DoneRequest, StoredProcedure, by_name, by_number}
-use Rattle.log_model.specs.Name.{is_name}
+use Rattle.log_model.specs.Log.{Catalogue, DoneRequest, StoredProcedure}
 use Rattle.catalogue.specs.Catalogue.{SystemCatalogue, accepted_of}
 use Rattle.catalogue.specs.declared.fault.CatalogueFault.{CatalogueFault}
 use Rattle.catalogue.specs.declared.fault.CatalogueFault.TheVariants.{NameTaken, NumberTaken, NameShape, ForeignSchema}
@@ -34,7 +31,6 @@ use Rattle.script.specs.declared.cause.FaultCause.{FaultCause}
 use Rattle.script.specs.declared.cause.FaultCause.TheVariants as cause
 use Rattle.script.specs.declared.statements.Statement.TheVariants as statement
 use Rattle.script.specs.declared.statements.Setting.TheVariants.{Window, Table, Procedure, Row, Request, Origin}
-use Rattle.script.specs.Script.{ScriptSetting}
 use Rattle.script.specs.Settings.{caused, only_tables, program_for, setting_after, stored, then_with, unless_fault, unless_row_fault, verified, with_procedure}
 use Rattle.script.proofs.AcceptanceLemmas.{verified_accepted}
 use Rattle.site_model.specs.declared.origin.Origin.{Origin as OrderOrigin}
@@ -42,11 +38,11 @@ use Rattle.site_model.specs.Standing.{SiteSetting}
 use Rattle.site_laws.proofs.DecodingLemmas.{whole_length}
 use Rattle.site_report.specs.SettingsText.{additions_lines, beginning_lines, first_lines, origin_lines, procedure_line, request_line, row_setting_line, settings_lines, table_line, window_line}
 use Rattle.site_service.specs.declared.settings_line.SettingsLine.TheVariants.{Additions, Statement}
-use Rattle.site_service.specs.Settings.{SettingsSoFar, after_line, is_beyond, nothing_set, settings_say, whole, with_script_setting}
-use Rattle.site_service.proofs.PrintedLemmas.{FitsProcedureLine, FitsRequestLine, Prints, additions_printed, fields_of_procedure, fields_of_request, origin_printed, procedure_printed, request_printed, row_printed, table_printed, window_printed}
-use Rattle.site_service.proofs.RisingLemmas.{each_is_found, insert_last, is_last, true_is}
+use Rattle.site_service.specs.Settings.{SettingsSoFar, after_line, nothing_set, settings_say, whole}
+use Rattle.site_service.proofs.PrintedLemmas.{additions_printed, fields_of_procedure, fields_of_request, origin_printed, procedure_printed, request_printed, row_printed, table_printed, window_printed}
+use Rattle.site_laws.proofs.RisingLemmas.{each_is_found, insert_last, is_last, true_is}
 use Rattle.site_service.proofs.LeadLemmas.{Leads, leads_by, leads_nowhere, leads_on, said_where_led}
-use Rattle.site_service.proofs.Told.{AreDoneFrom, AreToldFrom, FitsOrigin, IsTold, IsToldProcedure, IsToldRequest, IsWellTold}
+use Rattle.site_service.proofs.Told.{AreDoneFrom, AreToldFrom, FitsOrigin, IsTold, IsToldProcedure}
 
 -- ---- tables
 
@@ -209,10 +205,10 @@ lead_rows s tables ps m before ((key, row) ∷ es) is rises rows =
       rest.0,
       rest.1 ∙ append_assoc before ((key, row) ∷ []) es,
       leads_by (so_far s m [] ps) (so_far s (insert m key row) [] ps) (so_far s rest.0 [] ps) (row_setting_line (key, row)) (map row_setting_line es) (Statement (statement.Setting (Row key.0 key.1 row)))
-      (row_printed key row (omega arith) fits.at_key.key_fits fits.each_byte (omega arith))
-      (ap (λ (fault : Option RowFault). then_with (then_with (unless_row_fault (record (so_far s m [] ps).settings.catalogue { rows = insert m key row }) fault) (λ catalogue. Ok (record (so_far s m [] ps).settings { catalogue = catalogue }))) (λ settings. Ok (record (so_far s m [] ps) { settings = settings })))
-      (no_row_fault s.setting.tables m before key row is fits last))
-      rest.2,
+          (row_printed key row (omega arith) fits.at_key.key_fits fits.each_byte (omega arith))
+          (ap (λ (fault : Option RowFault). then_with (then_with (unless_row_fault (record (so_far s m [] ps).settings.catalogue { rows = insert m key row }) fault) (λ catalogue. Ok (record (so_far s m [] ps).settings { catalogue = catalogue }))) (λ settings. Ok (record (so_far s m [] ps) { settings = settings })))
+          (no_row_fault s.setting.tables m before key row is fits last))
+          rest.2,
     )
 
 rows_of : (tables : Tables) (rows : Rows) → AreRows tables rows → AreRowsOf tables (entries rows)

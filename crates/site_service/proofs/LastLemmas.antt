@@ -1,18 +1,15 @@
 -- What sessions did last is told in rising order.
-use Rattle.std.proofs.Common.{◌≡◌, ℕ, ◌+◌, ◌-◌, ◌<◌, ◌≤◌, ◌^◌, ◌==◌, nat_lt, Bool, true, false, not, is_some, ◌&&◌, cond, List, [], ◌∷◌, ◌++◌, length, map, All, slice_get, Option, Some, None, refl, sym, ap, subst, ◌∙◌, arith}
+use Rattle.std.proofs.Common.{◌≡◌, ℕ, ◌+◌, ◌-◌, ◌<◌, ◌≤◌, ◌^◌, ◌==◌, nat_lt, Bool, true, false, ◌&&◌, cond, List, [], ◌∷◌, ◌++◌, length, map, slice_get, Option, Some, None, refl, sym, ap, subst, ◌∙◌, arith}
 use Rattle.std.specs.Prelude.{T}
 use Rattle.std.specs.List.{AllByRecursion, fold}
 use Rattle.std.specs.Option.{option_map_or}
-use Rattle.std.specs.declared.cmp.Ordering.{Ordering}
-use Rattle.std.specs.declared.cmp.Ordering.TheVariants.{Less, Equal, Greater}
-use Rattle.std.specs.Ordering.{MatchOrdering, is_lt, nat_cmp}
-use Rattle.std.specs.Cmp.{nat_cmp_total, ranks}
+use Rattle.std.specs.Ordering.{nat_cmp}
+use Rattle.std.specs.Cmp.{nat_cmp_total}
 use Rattle.std.specs.FinMap.{empty, entries, entries_sorted, get, get-empty, is_sorted}
 use Rattle.std.specs.FinMap.Entries.{below_all}
 use Rattle.std.proofs.lemmas.Bool.Decides.{nat_tests}
 use Rattle.std.proofs.lemmas.List.{length-append}
 use Rattle.std.proofs.lemmas.List.Elements.{All-nil}
-use Rattle.schema.specs.declared.limits.TheConstants.{MAX_ARGUMENTS}
 use Rattle.schema.proofs.SortedLemmas.{first, second}
 use Rattle.log_model.specs.Log.{DoneRequest}
 use Rattle.catalogue.specs.Fault.{is_next_session}
@@ -23,8 +20,8 @@ use Rattle.site_laws.proofs.LogLemmas.{there}
 use Rattle.order_chains.proofs.RequestLemmas.{last_cases}
 use Rattle.site_service.specs.Settings.{is_beyond}
 use Rattle.site_service.proofs.PrintedLemmas.{FitsRequestLine}
-use Rattle.site_service.proofs.RisingLemmas.{each_is_found}
-use Rattle.site_service.proofs.Told.{AreDoneFrom, IsToldRequest}
+use Rattle.site_laws.proofs.RisingLemmas.{each_is_found, less_of}
+use Rattle.site_service.proofs.Told.{AreDoneFrom}
 
 -- ---- each is of its session, and fits its line
 
@@ -77,14 +74,6 @@ opened_fits (Some origin) opened bytes session e = by_tests (is_opening bytes) (
         (omega arith, omega arith)
 
 -- ---- in rising order
-
-less_of : (a b : ℕ) → T (is_lt (nat_cmp a b)) → a < b
-less_of a b = by_order (nat_cmp a b) (ranks a b)
-  where
-    by_order : (o : Ordering) → MatchOrdering o (a < b) (a ≡ b) (b < a) → T (is_lt o) → a < b
-    by_order Less is h = is
-    by_order Equal is h = absurd h
-    by_order Greater is h = absurd h
 
 next_behind : (before : List DoneRequest) (d : DoneRequest) (session : ℕ) → d.request.session < session → is_next_session (before ++ d ∷ []) session ≡ true
 next_behind before d session less =

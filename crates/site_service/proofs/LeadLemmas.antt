@@ -1,6 +1,6 @@
 -- Lines of settings, one behind another: what has been set before them and behind them.
-use Rattle.std.proofs.Common.{◌≡◌, ◌≢◌, ℕ, ◌+◌, ◌-◌, ◌≤◌, ◌<◌, ◌^◌, ◌==◌, nat_le, Bool, true, false, not, cond, ◌&&◌, ◌||◌, is_some, List, [], ◌∷◌, ◌++◌, length, map, All, Option, Some, None, Result, Ok, Err, refl, sym, ap, subst, ◌∙◌, arith, append_assoc, append-nil}
-use Rattle.std.specs.List.{AllByRecursion, concat}
+use Rattle.std.proofs.Common.{◌≡◌, ℕ, ◌+◌, List, [], ◌∷◌, ◌++◌, Some, Result, Ok, refl, sym, ap, ◌∙◌, append_assoc, append-nil}
+use Rattle.std.specs.List.{concat}
 use Rattle.script.specs.declared.cause.FaultCause.{FaultCause}
 use Rattle.script.specs.Said.{said_from, unless_faulty}
 use Rattle.script.specs.Text.{lines_of}
@@ -25,9 +25,9 @@ leads_by s t u line lines x prints taken later = record {
       let next = later.step (number + 1) more in (
         next.0,
         ap (λ (l : List ℕ). said_from with_line whole s number (lines_of l)) split
-        ∙ ap (said_from with_line whole s number) (lines_of-ended prints.text rest prints.no_end)
-        ∙ ap (λ (r : Result SettingsSoFar FaultCause). unless_faulty number r (λ n. said_from with_line whole n (number + 1) (lines_of rest))) (ap (after_line s) prints.says ∙ taken)
-        ∙ next.1,
+            ∙ ap (said_from with_line whole s number) (lines_of-ended prints.text rest prints.no_end)
+            ∙ ap (λ (r : Result SettingsSoFar FaultCause). unless_faulty number r (λ n. said_from with_line whole n (number + 1) (lines_of rest))) (ap (after_line s) prints.says ∙ taken)
+            ∙ next.1,
       );
 }
 
@@ -38,7 +38,7 @@ leads_on s t u first second a b = record {
       let two = b.step one.0 more in (
         two.0,
         ap (λ (l : List ℕ). said_from with_line whole s number (lines_of l)) (ap (λ (l : List ℕ). l ++ more) (concat-append first) ∙ append_assoc (concat first) (concat second) more)
-        ∙ one.1 ∙ two.1,
+            ∙ one.1 ∙ two.1,
       );
 }
   where

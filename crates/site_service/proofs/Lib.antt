@@ -7,13 +7,11 @@ mod AnswerLemmas
 mod DumpLemmas
 mod FieldLemmas
 mod PrintedLemmas
-mod RisingLemmas
 mod LeadLemmas
 mod Told
 mod BackLemmas
 mod SayLemmas
 mod SaidLemmas
-mod NamedLemmas
 mod LastLemmas
 mod NextLemmas
 mod TakenLemmas

@@ -1,37 +1,31 @@
 -- The setting that goes on from a told one is told.
-use Rattle.std.proofs.Common.{◌≡◌, ◌≢◌, ◌↔◌, ℕ, suc, ◌+◌, ◌-◌, ◌<◌, ◌≤◌, ◌^◌, ◌==◌, nat_lt, nat_le, Bool, true, false, not, is_some, ◌&&◌, cond, List, [], ◌∷◌, ◌++◌, length, map, take, drop, find, All, Option, Some, None, Ok, option_map, refl, sym, ap, subst, ◌∙◌, arith, append_assoc, append-nil, take-append-drop}
+use Rattle.std.proofs.Common.{◌≡◌, ℕ, ◌+◌, ◌<◌, ◌≤◌, ◌^◌, ◌==◌, Bool, true, false, cond, List, [], ◌∷◌, ◌++◌, length, take, drop, find, All, Option, Some, None, option_map, refl, sym, ap, subst, ◌∙◌, arith, append_assoc, append-nil, take-append-drop}
 use Rattle.std.specs.List.{AllByRecursion}
 use Rattle.std.proofs.lemmas.Bool.Decides.{nat_tests}
-use Rattle.std.proofs.lemmas.List.{length-append, length-map, length-take, map-append}
-use Rattle.std.proofs.lemmas.List.Elements.{All-append, All-cons, All-head, All-nil, All-push, All-tail, All-take, All-weaker}
+use Rattle.std.proofs.lemmas.List.{length-map, length-take, map-append}
+use Rattle.std.proofs.lemmas.List.Elements.{All-cons, All-head, All-nil, All-push, All-tail, All-take, All-weaker}
 use Rattle.schema.specs.declared.limits.TheConstants.{MAX_ARGUMENTS}
-use Rattle.schema.specs.Rows.{AreRows, Rows}
-use Rattle.schema.specs.Schema.{AreTables, Tables}
-use Rattle.bpf_code.specs.Program.{IsProgram, Program}
+use Rattle.schema.specs.Rows.{AreRows}
+use Rattle.schema.specs.Schema.{Tables}
 use Rattle.bpf_bytes.specs.Decoding.{program_of}
-use Rattle.bpf_bytes.specs.Spelling.{spelling}
 use Rattle.log_model.specs.declared.request.RequestId.{RequestId}
-use Rattle.log_model.specs.Fit.{AllFitLog, AreSafe, BeginsSafely, IsSafe}
+use Rattle.log_model.specs.Fit.{AllFitLog, BeginsSafely}
 use Rattle.log_model.specs.OpenRequest.{has_zero}
-use Rattle.log_model.specs.Log.{Call, Catalogue, DoneRequest, IsLog, Log, Setting, StoredProcedure, by_number, procedure_of, procedures_after, rows_after, run_in}
-use Rattle.log_model.specs.Entries.{CallEntry, Entry, ExecutedCall, item_of, items_of}
-use Rattle.log_entry.specs.Head.{AdditionHead, CallHead, Head, head_of}
-use Rattle.program_checks.specs.ProgramCheck.{Passed}
-use Rattle.program_checks.specs.Check.{check_of}
-use Rattle.site_model.specs.declared.cause.NothingCause.{NothingCause}
+use Rattle.log_model.specs.Log.{Call, Catalogue, DoneRequest, IsLog, Log, Setting, StoredProcedure, by_number, procedures_after, rows_after}
+use Rattle.log_model.specs.Entries.{CallEntry, Entry, item_of, items_of}
+use Rattle.log_entry.specs.Head.{Head, head_of}
 use Rattle.site_model.specs.declared.origin.Origin.{Origin}
 use Rattle.site_model.specs.declared.outcome.EntryOutcome.{EntryOutcome}
 use Rattle.site_model.specs.declared.outcome.EntryOutcome.TheVariants as outcome
-use Rattle.site_model.specs.Answer.{stored_as}
 use Rattle.site_model.specs.Fit.{AreFitEntries}
 use Rattle.site_model.specs.Next.{next_origin, next_setting, origin_behind, requests_of}
 use Rattle.site_model.specs.Order.{Order, next_outcome, order_entries, order_log, outcome_behind, sessions_after}
-use Rattle.site_model.specs.Sessions.{LastRequests, Sessions, done_by, nothing_done, opened_with, session_opened, sessions_with, with_done_if}
-use Rattle.site_model.specs.Standing.{SiteSetting, Standing, StandsAs, call_standing, executed, standing, takes_arguments}
+use Rattle.site_model.specs.Sessions.{Sessions, done_by, nothing_done, opened_with, session_opened, sessions_with, with_done_if}
+use Rattle.site_model.specs.Standing.{SiteSetting, StandsAs, call_standing, executed, takes_arguments}
 use Rattle.site_model.proofs.StandingLemmas.{StandsWell, args_bytes, call_cases, stands_as_call}
-use Rattle.site_laws.specs.Added.{AddsProcedure, NamesProcedure}
-use Rattle.site_laws.specs.Orders.{FitsFields, IsBytes, IsOfBytes, IsSafeSetting, procedures_behind, rows_behind}
-use Rattle.site_laws.proofs.AskedLemmas.{RunsFit, added_fits, fit_from, reply_fits}
+use Rattle.site_laws.specs.Added.{NamesProcedure}
+use Rattle.site_laws.specs.Orders.{FitsFields, IsBytes, IsOfBytes, IsSafeSetting, procedures_behind}
+use Rattle.site_laws.proofs.AskedLemmas.{RunsFit, added_fits, reply_fits}
 use Rattle.site_laws.proofs.FinalLemmas.{heads_are_whole}
 use Rattle.site_laws.proofs.GrowingLemmas.{Added, First, Others, Told, by_next}
 use Rattle.site_laws.proofs.LogLemmas.{HaveVerdicts, ProceduresGrow, beginning, commits_there}
@@ -44,9 +38,9 @@ use Rattle.site_service.specs.Settings.{is_beyond}
 use Rattle.site_service.proofs.PrintedLemmas.{FitsRequestLine}
 use Rattle.site_service.proofs.BackLemmas.{are_tables}
 use Rattle.site_service.proofs.SaidLemmas.{told_push}
-use Rattle.site_service.proofs.NamedLemmas.{named_bytes, named_call_fits, session_above}
+use Rattle.site_laws.proofs.HeadFitLemmas.{named_call_fits, named_procedure_fits, session_above}
 use Rattle.site_service.proofs.LastLemmas.{AreLasts, first_lasts_are, nothing_fits, opened_fits, requests_are_done, with_last}
-use Rattle.site_service.proofs.Told.{AreDoneFrom, AreToldFrom, FitsOrigin, IsTold, IsToldProcedure, IsToldRequest, IsWellTold}
+use Rattle.site_service.proofs.Told.{AreDoneFrom, AreToldFrom, FitsOrigin, IsTold, IsWellTold}
 
 -- what lower laws say
 abbrev pub RowsFit : Type 0
@@ -96,7 +90,7 @@ well_added : (s : SiteSetting) (bytes : List ℕ) (p : StoredProcedure) → Chec
 well_added s bytes p passed are names fits =
     let n = names.named in
     let (decoded, accepted) = (passed s.setting.tables n.args_len n.bytes names.program).0 names.accepted in
-    let bytes_are = named_bytes bytes n are names.head in
+    let bytes_are = (named_procedure_fits bytes n are names.head).bytes in
     let spelled = decoded_is_spelled n.bytes names.program bytes_are decoded in
     let same_fits = subst FitsFields names.is fits in
     subst (IsWellTold s.setting.tables) (sym names.is) (record {

@@ -1,12 +1,12 @@
 -- Lines of settings as they are printed: they are read as what they say.
-use Rattle.std.proofs.Common.{◌≡◌, ◌≢◌, ℕ, suc, ◌+◌, ◌*◌, ◌^◌, ◌==◌, ◌<◌, ◌≤◌, nat_le, Bool, true, false, not, cond, ◌&&◌, ◌||◌, List, [], ◌∷◌, ◌++◌, length, All, Option, Some, None, Result, Ok, Err, refl, sym, ap, subst, ◌∙◌, arith, append_assoc}
-use Rattle.std.specs.Prelude.{codes, slice_index, if◌then◌else◌}
-use Rattle.std.specs.List.{list_all, onto_first, slice_split}
+use Rattle.std.proofs.Common.{◌≡◌, ◌≢◌, ℕ, ◌+◌, ◌^◌, ◌==◌, ◌<◌, ◌≤◌, Bool, true, false, not, cond, List, [], ◌∷◌, ◌++◌, length, All, Option, Some, None, Result, Ok, Err, refl, sym, ap, subst, ◌∙◌, arith, append_assoc}
+use Rattle.std.specs.Prelude.{codes, if◌then◌else◌}
+use Rattle.std.specs.List.{onto_first}
 use Rattle.std.specs.Fmt.{decimal}
 use Rattle.std.proofs.lemmas.Bool.{and_from, le-leb}
 use Rattle.std.proofs.lemmas.Bool.Decides.{nat_tests}
 use Rattle.std.proofs.lemmas.List.{length-append}
-use Rattle.std.proofs.lemmas.List.Elements.{All-append, All-cons, All-nil, All-weaker}
+use Rattle.std.proofs.lemmas.List.Elements.{All-append, All-cons, All-weaker}
 use Rattle.std.proofs.lemmas.List.Splits.{length-slice_split, slice_split_none}
 use Rattle.std.proofs.lemmas.List.Sums.{list_all-from_AllPass}
 use Rattle.schema.specs.declared.limits.TheConstants.{MAX_ARGUMENTS, MAX_WINDOW}
@@ -24,7 +24,7 @@ use Rattle.script.specs.declared.word.Word.TheVariants as word
 use Rattle.script.specs.declared.word.SettingWord.{SettingWord}
 use Rattle.script.specs.declared.word.SettingWord.TheVariants as setting
 use Rattle.script.specs.Line.{few_bytes, fields_say, five, made_of, one, said_by_fields, said_by_word, says, three, two}
-use Rattle.script.specs.Text.{bytes_of_hex, fields_of, is_printable, is_readable, is_skipped, max_line, number_of}
+use Rattle.script.specs.Text.{fields_of, is_printable, is_readable, is_skipped, max_line, number_of}
 use Rattle.script.specs.Script.{ScriptSetting, setting_said}
 use Rattle.site_model.specs.declared.origin.Origin.{Origin as OrderOrigin}
 use Rattle.site_report.specs.SettingsText.{additions_line, hex_field, next_number, origin_line, procedure_line, request_line, row_setting_line, table_line, window_line}

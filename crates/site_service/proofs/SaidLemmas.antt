@@ -1,22 +1,18 @@
 -- Settings that lines say are within limits: their procedures are accepted, their rows are of their tables, their requests rise.
-use Rattle.std.proofs.Common.{◌≡◌, ℕ, ◌+◌, ◌≤◌, ◌<◌, ◌^◌, ◌==◌, Bool, true, false, not, cond, ◌&&◌, ◌||◌, is_some, List, [], ◌∷◌, ◌++◌, length, All, Option, Some, None, Result, Ok, Err, refl, sym, ap, subst, ◌∙◌, arith, append_assoc, append-nil}
+use Rattle.std.proofs.Common.{◌≡◌, ℕ, ◌+◌, ◌≤◌, ◌<◌, ◌==◌, Bool, true, false, not, ◌||◌, is_some, List, [], ◌∷◌, ◌++◌, length, All, Option, Some, None, Result, Ok, Err, refl, sym, ap, subst, ◌∙◌, arith, append_assoc, append-nil}
 use Rattle.std.specs.Prelude.{IsSome, if◌then◌else◌}
 use Rattle.std.specs.Option.{option_or}
-use Rattle.std.specs.FinMap.{empty, entries, get, insert}
+use Rattle.std.specs.FinMap.{empty, get, insert}
 use Rattle.std.proofs.lemmas.Bool.Decides.{nat_tests}
-use Rattle.schema.specs.declared.fault.SchemaFault.{SchemaFault}
 use Rattle.schema.specs.declared.limits.TheConstants.{MAX_WINDOW}
-use Rattle.schema.specs.Rows.{AreRows, IsRow, Key, Rows}
+use Rattle.schema.specs.Rows.{AreRows, IsRow}
 use Rattle.schema.specs.Schema.{Tables, schema_of, with_pairs}
 use Rattle.schema.proofs.RowsLemmas.{no_rows, rows_with_put}
-use Rattle.bpf_code.specs.Program.{Program}
-use Rattle.bpf_bytes.specs.declared.fault.DecodeFault.{DecodeFault}
 use Rattle.bpf_bytes.specs.Decoding.{program_of}
-use Rattle.bpf_bytes.specs.Spelling.{spelling}
-use Rattle.bpf_verify.specs.Flow.{Procedure as Accepted, IsAccepted}
-use Rattle.log_model.specs.Log.{Catalogue, DoneRequest, StoredProcedure, by_name, by_number}
+use Rattle.bpf_verify.specs.Flow.{Procedure as Accepted}
+use Rattle.log_model.specs.Log.{Catalogue, DoneRequest, StoredProcedure}
 use Rattle.log_model.specs.Name.{is_name}
-use Rattle.catalogue.specs.Catalogue.{SystemCatalogue, accepted_of, stored_of, system_setting}
+use Rattle.catalogue.specs.Catalogue.{SystemCatalogue, stored_of, system_setting}
 use Rattle.catalogue.specs.declared.fault.CatalogueFault.{CatalogueFault}
 use Rattle.catalogue.specs.declared.fault.CatalogueFault.TheVariants.{NameTaken, NumberTaken, NameShape, ForeignSchema}
 use Rattle.catalogue.specs.declared.request_fault.RequestFault.TheVariants.{Order as RequestOrder}
@@ -25,7 +21,6 @@ use Rattle.catalogue.specs.declared.row_fault.RowFault.TheVariants.{Width}
 use Rattle.catalogue.specs.Fault.{fault_of, is_next_session, order_fault, row_fault_of, width_fault}
 use Rattle.script.specs.declared.cause.FaultCause.{FaultCause}
 use Rattle.script.specs.declared.cause.FaultCause.TheVariants as cause
-use Rattle.script.specs.declared.cause.ScriptFault.{ScriptFault}
 use Rattle.script.specs.declared.fault.LineFault.{LineFault}
 use Rattle.script.specs.declared.procedure_fields.ProcedureFields.{ProcedureFields}
 use Rattle.script.specs.declared.request_fields.RequestFields.{RequestFields}
@@ -44,8 +39,7 @@ use Rattle.site_laws.proofs.DecodingLemmas.{decoded_is_program}
 use Rattle.site_laws.proofs.SpelledLemmas.{decoded_is_spelled}
 use Rattle.site_service.specs.declared.settings_line.SettingsLine.TheVariants.{Additions, Statement}
 use Rattle.site_service.specs.Settings.{SettingsRequest, SettingsSoFar, after_line, is_beyond, line_says, nothing_set, settings_say, whole, with_additions, with_line, with_origin, with_script_setting, with_setting, with_table, with_window}
-use Rattle.site_service.proofs.PrintedLemmas.{FitsRequestLine}
-use Rattle.site_service.proofs.SayLemmas.{FitsRequest, FitsSetting, line_fits}
+use Rattle.site_service.proofs.SayLemmas.{FitsSetting, line_fits}
 use Rattle.site_service.proofs.Told.{AreDoneFrom, AreToldFrom, FitsOrigin, IsTold, IsToldProcedure, IsToldRequest, IsWellTold}
 
 abbrev FitsWindow : Option ℕ → Type 0

@@ -1,5 +1,5 @@
 -- What a line of settings says fits its fields.
-use Rattle.std.proofs.Common.{◌≡◌, ℕ, ◌≤◌, ◌<◌, ◌^◌, ◌==◌, nat_le, Bool, true, false, not, cond, ◌&&◌, ◌||◌, List, [], ◌∷◌, length, All, Option, Some, None, Result, Ok, Err, refl, sym, ap, subst, ◌∙◌, arith}
+use Rattle.std.proofs.Common.{◌≡◌, ℕ, ◌≤◌, ◌<◌, ◌^◌, ◌==◌, nat_le, Bool, true, false, ◌&&◌, List, [], ◌∷◌, length, All, Option, Some, None, Result, Ok, Err, refl, sym, ap, subst, ◌∙◌, arith}
 use Rattle.std.specs.Prelude.{codes, if◌then◌else◌}
 use Rattle.std.specs.Result.{result_ok}
 use Rattle.std.specs.Fmt.{decimal}
@@ -12,7 +12,6 @@ use Rattle.hex.specs.Hex.{decode_of}
 use Rattle.hex.proofs.HexLemmas.{decode_of-ok}
 use Rattle.schema.specs.declared.limits.TheConstants.{MAX_ARGUMENTS, MAX_REPLICAS, MAX_WINDOW}
 use Rattle.script.specs.declared.fault.LineFault.{LineFault}
-use Rattle.script.specs.declared.fault.LineFault.TheVariants as fault
 use Rattle.script.specs.declared.procedure_fields.ProcedureFields.{ProcedureFields}
 use Rattle.script.specs.declared.request_fields.RequestFields.{RequestFields}
 use Rattle.script.specs.declared.statements.Statement.TheVariants as statement
@@ -21,7 +20,7 @@ use Rattle.script.specs.declared.word.Word.TheVariants as word
 use Rattle.script.specs.declared.word.SettingWord.{SettingWord}
 use Rattle.script.specs.declared.word.SettingWord.TheVariants as setting
 use Rattle.script.specs.Line.{few_bytes, fields_said, fields_say, five, made_of, one, said_by_fields, said_by_word, says, three, two}
-use Rattle.script.specs.Text.{bytes_of_hex, count_of, fields_of, is_readable, is_skipped, max_line, number_of, u16_of, u32_of, u64_of, u8_of}
+use Rattle.script.specs.Text.{bytes_of_hex, count_of, max_line, number_of, u16_of, u32_of, u64_of, u8_of}
 use Rattle.script.specs.Script.{ScriptAction, ScriptSetting, ScriptStatement, setting_said}
 use Rattle.script.specs.Script as script
 use Rattle.script.specs.Settings.{done_of}

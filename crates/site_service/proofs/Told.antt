@@ -1,9 +1,9 @@
 -- What is known of the settings that lines say.
-use Rattle.std.proofs.Common.{◌≡◌, ℕ, ◌≤◌, ◌<◌, ◌^◌, true, false, List, [], ◌∷◌, ◌++◌, All, Option, Some, None, Ok}
+use Rattle.std.proofs.Common.{◌≡◌, ◌≤◌, ◌<◌, ◌^◌, true, false, List, [], ◌∷◌, ◌++◌, All, Option, Some, None, Ok}
 use Rattle.schema.specs.declared.limits.TheConstants.{MAX_ARGUMENTS, MAX_WINDOW}
 use Rattle.schema.specs.Schema.{Tables, schema_of}
 use Rattle.schema.specs.Rows.{AreRows}
-use Rattle.bpf_code.specs.Program.{IsProgram, max_slots}
+use Rattle.bpf_code.specs.Program.{IsProgram}
 use Rattle.bpf_bytes.specs.Decoding.{program_of}
 use Rattle.bpf_bytes.specs.Spelling.{spelling}
 use Rattle.bpf_verify.specs.Flow.{IsAccepted}

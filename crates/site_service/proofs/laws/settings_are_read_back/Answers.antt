@@ -1,8 +1,6 @@
 -- Settings that lines say are within limits, and so are those that go on from them; what is within limits is read back.
-use Rattle.std.proofs.Common.{◌≡◌, [], subst}
+use Rattle.std.proofs.Common.{[], subst}
 use Rattle.site_model.specs.Next.{next_setting}
-use Rattle.site_model.specs.Order.{Order}
-use Rattle.site_model.specs.Standing.{SiteSetting}
 use Rattle.site_service.specs.Answering.{order_after}
 use Rattle.site_service.proofs.BackLemmas.{read_back}
 use Rattle.site_service.proofs.NextLemmas.{Laws, next_is_told, told_are_numbered}

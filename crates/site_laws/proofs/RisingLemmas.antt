@@ -1,11 +1,11 @@
 -- The entries of a map, one behind another: each is found, and to insert a key behind all others is to append.
-use Rattle.std.proofs.Common.{◌≡◌, ℕ, Bool, true, false, cond, ◌&&◌, List, [], ◌∷◌, ◌++◌, map, Option, Some, None, refl, sym, ap, subst, ◌∙◌}
+use Rattle.std.proofs.Common.{◌≡◌, ℕ, ◌<◌, Bool, true, false, cond, List, [], ◌∷◌, ◌++◌, map, Some, refl, ap, ◌∙◌}
 use Rattle.std.specs.Prelude.{T}
 use Rattle.std.specs.List.{AllByRecursion, list_all}
 use Rattle.std.specs.declared.cmp.Ordering.{Ordering}
 use Rattle.std.specs.declared.cmp.Ordering.TheVariants.{Less, Equal, Greater}
-use Rattle.std.specs.Ordering.{is_eq, is_lt, ordering_reverse}
-use Rattle.std.specs.Cmp.{IsTotalOrder, tied_itself}
+use Rattle.std.specs.Ordering.{MatchOrdering, is_eq, is_lt, nat_cmp, ordering_reverse}
+use Rattle.std.specs.Cmp.{IsTotalOrder, ranks, tied_itself}
 use Rattle.std.specs.FinMap.{FinMap, entries, entries-insert, entries_sorted, find, get, get-entries, insert, is_sorted, put}
 use Rattle.std.specs.FinMap.Entries.{below_all, by_order}
 use Rattle.schema.proofs.SortedLemmas.{both, first, second}
@@ -64,3 +64,13 @@ module _ {K X : Type 0} (R : K → K → Ordering) where
   pub is_last : (before after : List (K × X)) (e : K × X) → T (is_sorted R (before ++ e ∷ after)) → T (list_all (λ q. is_lt (R q e.0)) (map (λ d. d.0) before))
   is_last [] after e h = tt
   is_last (b ∷ before) after e h = both _ _ (below_at b.0 before after e (first _ _ h)) (is_last before after e (second _ _ h))
+
+-- ---- numbers in order
+
+pub less_of : (a b : ℕ) → T (is_lt (nat_cmp a b)) → a < b
+less_of a b = by_order (nat_cmp a b) (ranks a b)
+  where
+    by_order : (o : Ordering) → MatchOrdering o (a < b) (a ≡ b) (b < a) → T (is_lt o) → a < b
+    by_order Less is h = is
+    by_order Equal is h = absurd h
+    by_order Greater is h = absurd h

@@ -1,5 +1,5 @@
 -- What byte strings name fits the fields that it was read from.
-use Rattle.std.proofs.Common.{◌≡◌, ℕ, ◌+◌, ◌*◌, ◌^◌, ◌==◌, ◌<◌, ◌≤◌, Bool, true, false, not, ◌&&◌, ◌||◌, cond, nat_le, List, [], ◌∷◌, length, take, drop, All, Option, Some, None, refl, sym, subst, ap, arith}
+use Rattle.std.proofs.Common.{◌≡◌, ℕ, ◌+◌, ◌^◌, ◌==◌, ◌<◌, ◌≤◌, Bool, true, false, not, ◌&&◌, ◌||◌, cond, nat_le, List, [], ◌∷◌, length, drop, Some, None, refl, subst, arith}
 use Rattle.std.proofs.lemmas.Bool.Decides.{nat_tests}
 use Rattle.std.proofs.lemmas.List.Elements.{All-drop, All-tail, All-take}
 use Rattle.byteorder.specs.Endian.{little_from}
@@ -33,9 +33,14 @@ pub record FitsCall (call : Call) : Type 0 where
   pub session : (request : RequestId) → call.request ≡ Some request → request.session < 2 ^ 32
   pub sequence : (request : RequestId) → call.request ≡ Some request → request.sequence < 2 ^ 32
 
+-- what a procedure's number and program have to be
+pub record FitsNamed (n : NamedProcedure) : Type 0 where
+  pub number : n.number < 2 ^ 16
+  pub bytes : IsBytes n.bytes
+
 abbrev FitsHead : Head → Type 0
 FitsHead (CallHead call told) = FitsCall call
-FitsHead (AdditionHead n) = IsBytes n.bytes
+FitsHead (AdditionHead n) = FitsNamed n
 
 given_fits : (session sequence : ℕ) (request : RequestId) → session < 2 ^ 32 → sequence < 2 ^ 32 → given_request session sequence ≡ Some request → (request.session < 2 ^ 32) × (request.sequence < 2 ^ 32)
 given_fits session sequence request few least = by_test (session == 0 && sequence == 0)
@@ -73,14 +78,17 @@ head_fits (kind ∷ fields) h are e = by_kind (kind == 1) (kind == 2) e
         (call_fits (field 14 2 fields) fields rest) e
     by_kind false true e =
         by_test (9 + field 4 1 fields + field (5 + field 4 1 fields) 4 fields == length fields) h (AdditionHead (procedure_of (field 4 1 fields) (field (5 + field 4 1 fields) 4 fields) fields))
-        (bytes_of_part (9 + field 4 1 fields) (field (5 + field 4 1 fields) 4 fields) fields rest) e
+        (record {
+          number = two_bytes (part 0 2 fields) (bytes_of_part 0 2 fields rest);
+          bytes = bytes_of_part (9 + field 4 1 fields) (field (5 + field 4 1 fields) 4 fields) fields rest;
+        }) e
     by_kind false false e = absurd cc
 
 pub named_call_fits : (bytes : List ℕ) (call : Call) (told : ℕ) → IsBytes bytes → head_of bytes ≡ Some (CallHead call told) → FitsCall call
 named_call_fits bytes call told are e = head_fits bytes (CallHead call told) are e
 
-pub named_bytes : (bytes : List ℕ) (n : NamedProcedure) → IsBytes bytes → head_of bytes ≡ Some (AdditionHead n) → IsBytes n.bytes
-named_bytes bytes n are e = head_fits bytes (AdditionHead n) are e
+pub named_procedure_fits : (bytes : List ℕ) (n : NamedProcedure) → IsBytes bytes → head_of bytes ≡ Some (AdditionHead n) → FitsNamed n
+named_procedure_fits bytes n are e = head_fits bytes (AdditionHead n) are e
 
 -- a request has a session above 0
 pub session_above : (request : RequestId) → has_zero (Some request) ≡ false → 1 ≤ request.session
