@@ -1,26 +1,19 @@
 -- The setting of a database that goes on tells of each session what it did last.
-use Rattle.std.proofs.Common.{◌≡◌, ℕ, ◌+◌, ◌<◌, ◌≤◌, ◌==◌, Bool, true, false, ◌||◌, cond, List, [], ◌∷◌, ◌++◌, length, map, Option, Some, None, refl, sym, ap, subst, ◌∙◌, arith, append_assoc, append-nil}
-use Rattle.std.specs.Prelude.{T}
+use Rattle.std.proofs.Common.{◌≡◌, ℕ, ◌≤◌, ◌==◌, Bool, true, false, ◌||◌, cond, List, [], ◌∷◌, ◌++◌, map, Option, Some, None, refl, sym, ap, subst, ◌∙◌, arith}
 use Rattle.std.specs.List.{AllByRecursion, fold}
 use Rattle.std.specs.Option.{option_map}
-use Rattle.std.specs.declared.cmp.Ordering.{Ordering}
-use Rattle.std.specs.declared.cmp.Ordering.TheVariants.{Less, Equal, Greater}
-use Rattle.std.specs.Ordering.{MatchOrdering, eq_by_cmp, is_eq, is_lt, nat_cmp}
-use Rattle.std.specs.Cmp.{nat_cmp_total, ranks, tied_itself, unsigned_tied}
-use Rattle.std.specs.FinMap.{empty, entries, entries_sorted, find, get, get-empty, get-entries, is_sorted}
-use Rattle.std.specs.FinMap.Entries.{below_all}
-use Rattle.std.proofs.lemmas.Bool.Decides.{nat_tests}
-use Rattle.schema.proofs.SortedLemmas.{first, second}
+use Rattle.std.specs.Ordering.{nat_cmp}
+use Rattle.std.specs.Cmp.{nat_cmp_total}
+use Rattle.std.specs.FinMap.{empty, entries, get, get-empty}
 use Rattle.log_model.specs.declared.request.RequestId.{RequestId}
 use Rattle.log_model.specs.OpenRequest.{has_zero}
 use Rattle.log_model.specs.Log.{DoneRequest}
 use Rattle.log_model.specs.Entries.{Entry}
-use Rattle.log_entry.specs.Head.{head_of}
 use Rattle.site_model.specs.declared.origin.Origin.{Origin}
 use Rattle.site_model.specs.Sessions.{LastRequests, Sessions, lasts_of, nothing_done, sessions_with, told_of, with_done}
 use Rattle.site_model.specs.Standing.{SiteSetting}
 use Rattle.site_model.specs.Order.{Order, outcome_behind, sessions_after}
-use Rattle.site_model.specs.Next.{origin_behind, requests_of}
+use Rattle.site_model.specs.Next.{requests_of}
 use Rattle.site_laws.proofs.FinalLemmas.{heads_are_whole}
 use Rattle.site_laws.proofs.RisingLemmas.{each_is_found}
 use Rattle.site_laws.proofs.SessionLemmas.{SessionsGoOn, kept_along, session_cases}
