@@ -424,7 +424,7 @@ func TestWhoGoesOnAloneAnswersAfterAWhile(t *testing.T) {
 	began := time.Now()
 	one.want("roll 1", "rolled 2 own")
 	one.committed("call add "+words_(5, 1)+" 1 2", 2)
-	if took := time.Since(began); took < confirmedIn || took > confirmedIn+2*time.Second {
+	if took := time.Since(began); took < confirmedIn || took > limit/2 {
 		t.Errorf("a call took %v", took)
 	}
 }
