@@ -260,15 +260,18 @@ class Transfers(ServerTest):
         rows = dict(it.split()[1:] for it in first.rows()[:-1])
         number = {int(key): int.from_bytes(bytes.fromhex(row), "little") for key, row in rows.items()}
         self.assertEqual(sum(number.get(it, 0) for it in range(ACCOUNTS)) % (1 << 64), 0)
+        told = {(session, 1): end}
         for it in clients:
-            committed = [int(answer[1]) for answer in it.answers.values() if answer[0] == "committed"]
+            committed = {pair: int(answer[1]) for pair, answer in it.answers.items() if answer[0] == "committed"}
             self.assertEqual(number.get(it.own, 0), len(committed))
-            self.assertEqual(len(committed), len(set(committed)))
             self.assertGreater(len(committed), 0)
-        heard = [(pair, answer) for it in clients for pair, answer in it.answers.items()]
-        told = {int(answer[1]): pair for pair, answer in heard if answer[0] == "committed"} | {end: (session, 1)}
-        found = {at: pair for at, pair in self.commits(end).items() if pair != CUT_OFF}
-        self.assertEqual((found.items() - told.items(), told.items() - found.items()), (set(), set()))
+            told |= committed
+        commits, ends = self.commits(end)
+        found = {pair: at for at, pair in commits.items() if pair != CUT_OFF}
+        self.assertEqual(len({*commits.values()}), len(commits))
+        self.assertEqual(found.keys() ^ told.keys(), set())
+        # what was done in an earlier order is told at the end of the one before the server's
+        self.assertEqual([it for it in told if told[it] != found[it] and not (told[it] in ends and told[it] > found[it])], [])
 
     def newcomer(self):
         return []
@@ -305,8 +308,9 @@ class Transfers(ServerTest):
         return found.pop() if found else None
 
     def commits(self, end):
-        """Returns the pair of each commit by its position, as an engine says that is given one order behind the other."""
-        found, settings, number, before = {}, TRANSFERS, 1, 0
+        """Returns the pair of each commit by its position, as an engine says that is given one order behind the other, and the
+        positions at which orders end."""
+        found, ends, settings, number, before = {}, set(), TRANSFERS, 1, 0
         while True:
             texts = self.whole(number, before, end)
             last = next((at for at, text in enumerate(texts) if at > 0 and text[:2] == b"\0\3"), len(texts))
@@ -315,9 +319,10 @@ class Transfers(ServerTest):
             lines = [it.split(" ") for it in said.splitlines() if it.startswith("entry ")]
             found |= {before + int(it[1]): (int(it[6]), int(it[8])) for it in lines if it[2] == "commit"}
             if last == len(texts):
-                return found
+                return found, ends
             dumped = said[said.index("window ") : said.rindex("position ")]
             number, before = number + 1, before + last
+            ends.add(before)
             settings = self.settings_of(number)
             self.assertIn(settings and settings.split("\n", 1)[1], (None, dumped))
             settings = dumped
